@@ -1,0 +1,6 @@
+pub mod DataType
+pub mod Device
+pub mod PlSmallStr
+pub mod PolarsError
+pub mod Pool
+pub mod Sorted

@@ -1,0 +1,11 @@
+//! Errors, types and columns: a column is its name, its type, its list of slots, its chunk lengths and
+//! its flags, however its chunks are stored. Beside them the outside of the program: where bytes come
+//! from and go to, and the gate that pieces of work pass.
+#![tactic(auto)]
+
+pub mod data_type;
+pub mod device;
+pub mod error;
+pub mod pool;
+pub mod small_str;
+pub mod sorted;

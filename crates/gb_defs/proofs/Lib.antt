@@ -1,0 +1,3 @@
+pub mod ClassesLemmas
+pub mod MapLemmas
+pub mod SlotLemmas

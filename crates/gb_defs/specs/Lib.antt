@@ -1,0 +1,15 @@
+pub mod Slot
+pub mod ColumnType
+pub mod Order
+pub mod Column
+pub mod Classes
+pub mod Fold
+pub mod Groups
+pub mod Answer
+pub mod Fault
+pub mod TypeWord
+pub mod Cell
+pub mod Table
+pub mod Text
+pub mod Request
+pub mod Outcome

@@ -1,0 +1,4 @@
+//! The definitions that every contract of the repository cites: slots, types, columns, classes,
+//! folds, answers, faults, the table text and the words of a request. They are plain data and
+//! functions of plain data in `specs/`; nothing here is the loop of a body elsewhere.
+#![tactic(auto)]

@@ -1,0 +1,8 @@
+//! The program: it reads a typed CSV table, groups it and writes the grouped table. `run` is its top
+//! call, and carries the theorem of what the program does.
+#![tactic(auto)]
+
+mod request;
+mod status;
+
+fn main() {}

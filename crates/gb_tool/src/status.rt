@@ -1,0 +1,52 @@
+ghost use Rattle.std.specs.Prelude.{◌≡◌};
+
+use gb_cols::error::PolarsError;
+use thiserror::Error;
+
+/// Where a table's text is at fault. Today the row and the column are not told apart: both are 0.
+#[derive(Clone, Copy, Debug, PartialEq, Eq)]
+pub enum TableFault {
+    BadCell(u64, u64),
+}
+
+/// Why a table was not read.
+#[derive(Debug, Drop, Error)]
+pub enum TableError {
+    #[error("bad cell")]
+    Fault(TableFault),
+    #[error("no memory")]
+    NoMemory,
+}
+
+/// How a run of the program ended.
+#[derive(Debug, Drop)]
+pub enum Status {
+    Done,
+    Usage,
+    Table(TableFault),
+    Group(PolarsError),
+    ReadFault,
+    WriteFault,
+    TooLong,
+    NoMemory,
+}
+
+impl Status {
+    ghost use Rattle.gb_tool.specs.Status.{code_of};
+
+    /// The exit status of the program.
+    pub fn code(&self) -> u8
+        ensures { result ≡ code_of self.now }
+    {
+        match self {
+            Status::Done => 0,
+            Status::Usage => 2,
+            Status::Table(_) => 3,
+            Status::Group(_) => 4,
+            Status::ReadFault => 5,
+            Status::WriteFault => 6,
+            Status::TooLong => 7,
+            Status::NoMemory => 9,
+        }
+    }
+}
