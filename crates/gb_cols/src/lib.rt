@@ -6,6 +6,8 @@
 pub mod data_type;
 pub mod device;
 pub mod error;
+pub mod memory;
 pub mod pool;
 pub mod small_str;
 pub mod sorted;
+pub mod standard;

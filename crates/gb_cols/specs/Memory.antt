@@ -1,0 +1,42 @@
+-- What contracts see of the devices in memory.
+use Rattle.std.specs.Prelude.{◌≡◌, ℕ, ◌-◌, ◌+◌, ◌==◌, nat_lt, min, Bool, ◌||◌, ◌&&◌, List, take, drop, length}
+use Rattle.std.specs.List.{list_any}
+use Rattle.gb_cols.specs.declared.memory.SoundSource.{SoundSource}
+use Rattle.gb_cols.specs.declared.memory.MemSink.{MemSink}
+
+-- the bytes that are left
+abbrev pub bytes_left : SoundSource → List ℕ
+bytes_left s = drop s.at s.bytes.items
+
+-- the bytes that were taken
+abbrev pub bytes_in : MemSink → List ℕ
+bytes_in s = take s.filled s.buffer.items
+
+-- how many more may be taken
+abbrev pub room_in : MemSink → ℕ
+room_in s = length s.buffer.items - s.filled
+
+abbrev pub most_of : MemSink → ℕ
+most_of s = s.most
+
+abbrev pub failing_of : MemSink → List ℕ
+failing_of s = s.failing.items
+
+abbrev pub calls_of : MemSink → ℕ
+calls_of s = s.calls
+
+abbrev pub faults_of : MemSink → ℕ
+faults_of s = s.faults
+
+-- the number of the next call, which stays at the last value of its counter
+abbrev pub next_call : MemSink → ℕ
+next_call s = min (s.calls + 1) 18446744073709551615
+
+abbrev pub fails_at : MemSink → List ℕ → Bool
+fails_at s piece = list_any (λ call. call == next_call s) (failing_of s) || ((room_in s == 0) && nat_lt 0 (length piece))
+
+-- one call more of the same sink
+pub record IsNextCall (old new : MemSink) : Type 0 where
+  pub calls : calls_of new ≡ next_call old
+  pub most : most_of new ≡ most_of old
+  pub failing : failing_of new ≡ failing_of old
