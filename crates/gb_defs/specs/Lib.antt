@@ -13,3 +13,4 @@ pub mod Table
 pub mod Text
 pub mod Request
 pub mod Outcome
+pub mod Worked

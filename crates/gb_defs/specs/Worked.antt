@@ -1,0 +1,16 @@
+-- Requests of the worked rows.
+use Rattle.std.specs.Prelude.{[], ◌∷◌, true, codes}
+use Rattle.gb_defs.specs.Fold.{Sum, Count}
+use Rattle.gb_defs.specs.Request.{Request, Group, default_options}
+
+abbrev pub sums_by_date : Request
+sums_by_date = Group (codes "date" ∷ []) ((codes "temp", Sum) ∷ (codes "temp", Count true) ∷ []) default_options
+
+abbrev pub sums_by_key : Request
+sums_by_key = Group (codes "k" ∷ []) ((codes "v", Sum) ∷ []) default_options
+
+abbrev pub keys_alone : Request
+keys_alone = Group (codes "k" ∷ []) [] default_options
+
+abbrev pub by_day : Request
+by_day = Group (codes "day" ∷ []) [] default_options

@@ -1,0 +1,36 @@
+//! What the definitions give on worked rows: each clause is an equation that computes.
+
+ghost use Rattle.std.specs.Prelude.{◌≡◌, codes, [], ◌∷◌, Some, None};
+ghost use Rattle.gb_defs.specs.Outcome.{outcome, Report, BadTable, BadGroup};
+ghost use Rattle.gb_defs.specs.Request.{request, Group, default_options};
+ghost use Rattle.gb_defs.specs.Fold.{Sum};
+ghost use Rattle.gb_defs.specs.Worked.{sums_by_date, sums_by_key, keys_alone, by_day};
+
+/// The request that the words of a command line spell.
+pub fn requests()
+    ensures spelled { request (codes "group" ∷ codes "--by" ∷ codes "date" ∷ codes "--agg" ∷ codes "sum:temp" ∷ codes "--agg" ∷ codes "count:temp" ∷ []) ≡ Some sums_by_date }
+    ensures colon { request (codes "group" ∷ codes "--by" ∷ codes "k" ∷ codes "--agg" ∷ codes "sum:a:b" ∷ []) ≡ Some (Group (codes "k" ∷ []) ((codes "a:b", Sum) ∷ []) default_options) }
+    ensures command_alone { request (codes "group" ∷ []) ≡ None }
+    ensures no_value { request (codes "group" ∷ codes "--by" ∷ codes "k" ∷ codes "--agg" ∷ []) ≡ None }
+    ensures unknown_method { request (codes "group" ∷ codes "--by" ∷ codes "k" ∷ codes "--agg" ∷ codes "total:v" ∷ []) ≡ None }
+{
+}
+
+/// What a request makes of a table's text.
+pub fn outcomes()
+    ensures sums_and_counts { outcome sums_by_date (codes "date,temp:i64\n2020-08-21,20\n2020-08-21,10\n2020-08-22,7\n2020-08-23,9\n2020-08-22,1\n")
+        ≡ Report (codes "date:str,temp_sum:i64,temp_count:u32\n2020-08-21,30,2\n2020-08-22,8,2\n2020-08-23,9,1\n") }
+    ensures null_is_a_group { outcome sums_by_key (codes "k,v:i64\n,5\n1,6\n,7\n") ≡ Report (codes "k:str,v_sum:i64\n,12\n1,6\n") }
+    ensures no_rows { outcome sums_by_key (codes "k,v:i64\n") ≡ Report (codes "k:str,v_sum:i64\n") }
+    ensures sums_wrap { outcome sums_by_key (codes "k,v:i64\nx,9223372036854775807\nx,1\n") ≡ Report (codes "k:str,v_sum:i64\nx,-9223372036854775808\n") }
+    ensures quoted { outcome sums_by_key (codes "k,v:i64\r\n\"x, y\",+2\r\n\"x, y\",-5\r\n") ≡ Report (codes "k:str,v_sum:i64\n\"x, y\",-3\n") }
+    ensures bad_cell { outcome keys_alone (codes "k:i64\n12x\n") ≡ BadTable }
+    ensures ragged { outcome keys_alone (codes "k\n1,2\n") ≡ BadTable }
+    ensures same_name { outcome keys_alone (codes "a,a:i64\n") ≡ BadTable }
+    ensures no_header { outcome keys_alone (codes "") ≡ BadTable }
+    ensures unread_type { outcome keys_alone (codes "k,v:i32\n") ≡ BadTable }
+    ensures other_word { outcome keys_alone (codes "k,x:foo\na,b\n") ≡ Report (codes "k:str\na\n") }
+    ensures missing_key { outcome by_day (codes "date,temp:i64\n2020-08-21,20\n") ≡ BadGroup }
+    ensures text_sum { outcome sums_by_key (codes "k,v\na,b\n") ≡ BadGroup }
+{
+}
