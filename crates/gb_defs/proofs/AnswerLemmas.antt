@@ -1,14 +1,13 @@
 -- The answer of a grouping by one key whose column has the frame's height.
-use Rattle.std.proofs.Common.{◌≡◌, ℕ, Bool, true, false, ◌&&◌, refl, sym, ◌∙◌, ap, List, [], ◌∷◌, ◌++◌, map, length, Option, Some, None, cond, eqb, is_none, eq-eqb}
+use Rattle.std.proofs.Common.{◌≡◌, ℕ, Bool, true, false, ◌&&◌, refl, ◌∙◌, ap, List, [], ◌∷◌, map, length, Some, None, cond, eq-eqb}
 use Rattle.gb_defs.specs.Slot.{Slot, slot_at}
-use Rattle.gb_defs.specs.ColumnType.{ColumnType}
-use Rattle.gb_defs.specs.Column.{ColumnValue, Frame, Content, find_column}
+use Rattle.gb_defs.specs.Column.{ColumnValue, Frame, find_column}
 use Rattle.gb_defs.specs.Classes.{agree_by, class, firsts, groups, rows_below, same_slot, stretched}
 use Rattle.gb_defs.specs.Fold.{Method}
-use Rattle.gb_defs.specs.Answer.{height_of, agree_of, key_at, aggregated, answer, answer_by}
+use Rattle.gb_defs.specs.Answer.{height_of, agree_of, aggregated, answer}
 use Rattle.gb_defs.specs.Fault.{Fault, fault}
 use Rattle.gb_defs.specs.Text.{frame_text}
-use Rattle.gb_defs.specs.Outcome.{Outcome, BadGroup, Report, is_text, find_columns, outcome_by_keys, answer_text}
+use Rattle.gb_defs.specs.Outcome.{BadGroup, Report, is_text, find_columns, outcome_by_keys, answer_text}
 
 pub stretched_same : (height : ℕ) (key : List Slot) → length key ≡ height → stretched height key ≡ key
 stretched_same height key e = rw (eq-eqb (length key) height e)
@@ -26,7 +25,7 @@ module _ (frame : Frame) (key : ColumnValue) (high : length key.slots ≡ height
   -- the rows of the answer, and the lists that its aggregates are over, are those of the groups
   pub answer_one : (aggs : List (List ℕ × Method)) → answer frame (key ∷ []) aggs (firsts (agree_of frame (key ∷ [])) (rows_below (height_of frame (key ∷ []))))
       ≡ record { name = key.name; dtype = key.dtype; slots = map (slot_at key.slots) (firsts (same_slot key.slots) (rows_below (length key.slots))) }
-        ∷ map (λ agg. aggregated agg (find_column frame agg.0) (map (class (same_slot key.slots) (rows_below (length key.slots))) (firsts (same_slot key.slots) (rows_below (length key.slots))))) aggs
+      ∷ map (λ agg. aggregated agg (find_column frame agg.0) (map (class (same_slot key.slots) (rows_below (length key.slots))) (firsts (same_slot key.slots) (rows_below (length key.slots))))) aggs
   unfolding answer
   answer_one aggs = rw (agree_one, stretched_same (height_of frame (key ∷ [])) key.slots high, ← high)
 

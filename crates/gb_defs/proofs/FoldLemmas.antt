@@ -1,9 +1,9 @@
 -- One slot more of a running fold.
-use Rattle.std.proofs.Common.{◌≡◌, ℕ, suc, ◌+◌, ◌<◌, ℤ, pos, ◌+ℤ◌, Bool, true, false, not, refl, sym, ◌∙◌, ap, List, [], ◌∷◌, ◌++◌, take, length, get_or, fold, cond, filter, map}
-use Rattle.std.proofs.lemmas.List.{map_more, append-nil, length-append, length_push}
+use Rattle.std.proofs.Common.{◌≡◌, ℕ, ◌+◌, ◌<◌, pos, ◌+ℤ◌, true, false, sym, ◌∙◌, ap, List, [], ◌∷◌, ◌++◌, take, length, get_or, cond}
+use Rattle.std.proofs.lemmas.List.{map_more, append-nil}
 use Rattle.std.proofs.lemmas.List.Elements.{filter-append}
 use Rattle.std.proofs.lemmas.List.Sums.{fold-append}
-use Rattle.gb_defs.specs.Slot.{Slot, Nil, is_nil, number_in, slot_at}
+use Rattle.gb_defs.specs.Slot.{Slot, is_nil, number_in, slot_at}
 use Rattle.gb_defs.specs.ColumnType.{ColumnType}
 use Rattle.gb_defs.specs.Fold.{wrap, picked, is_valid, valid, total}
 use Rattle.gb_defs.proofs.WrapLemmas.{wrap-add_left}

@@ -1,12 +1,12 @@
 -- To wrap on the way changes nothing: the step of a running sum.
-use Rattle.std.proofs.Common.{◌≡◌, ℕ, zero, suc, ◌+◌, ◌-◌, ◌*◌, ◌^◌, ◌%◌, ◌<◌, ◌≤◌, ℤ, pos, negsuc, ◌+ℤ◌, refl, sym, ◌∙◌, ap, arith, List, [], ◌∷◌, ◌++◌, take, length, get_or, fold, cond, true, false, Bool, filter, map}
-use Rattle.std.specs.Int.{Width, int_wrap, int_rem_euclid}
+use Rattle.std.proofs.Common.{◌≡◌, ℕ, suc, ◌+◌, ◌-◌, ◌*◌, ◌^◌, ◌%◌, ◌<◌, ◌≤◌, ℤ, pos, negsuc, ◌+ℤ◌, refl, sym, ◌∙◌, ap, arith}
+use Rattle.std.specs.Int.{int_rem_euclid}
 use Rattle.std.proofs.lemmas.Int.{ints, int_rem_euclid_is, int_wrap-add_left}
 use Rattle.std.proofs.Math.Nat.{mod-add-mod, mul-le-mul_left}
 use Rattle.std.proofs.Math.Pow.{pow_pos}
 use mir.Val.{bits}
-use Rattle.gb_defs.specs.ColumnType.{ColumnType, FlatType, Null, Boolean, Unsigned, Signed, Decimal, Date, Time, Datetime, Duration, String, Binary, BinaryOffset, Categorical, Enum, Flat, ListOf, ArrayOf, StructOf}
-use Rattle.gb_defs.specs.Fold.{wrap, wrap_flat}
+use Rattle.gb_defs.specs.ColumnType.{ColumnType, Null, Boolean, Unsigned, Signed, Decimal, Date, Time, Datetime, Duration, String, Binary, BinaryOffset, Categorical, Enum, Flat, ListOf, ArrayOf, StructOf}
+use Rattle.gb_defs.specs.Fold.{wrap}
 
 -- a natural number that is congruent
 lifted : (n : ℕ) → 0 < n → (a : ℤ) → (k : ℕ) × (m : ℕ) × (a +ℤ pos (k * n) ≡ pos m)

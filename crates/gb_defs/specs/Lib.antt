@@ -14,3 +14,4 @@ pub mod Text
 pub mod Request
 pub mod Outcome
 pub mod Worked
+pub mod Plain

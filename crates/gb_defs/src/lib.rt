@@ -4,4 +4,5 @@
 //! slow program that the definitions describe, and `worked` what they give on worked rows.
 #![tactic(auto)]
 
+pub mod plain;
 pub mod worked;

@@ -13,8 +13,7 @@ pub fn requests()
     ensures command_alone { request (codes "group" ∷ []) ≡ None }
     ensures no_value { request (codes "group" ∷ codes "--by" ∷ codes "k" ∷ codes "--agg" ∷ []) ≡ None }
     ensures unknown_method { request (codes "group" ∷ codes "--by" ∷ codes "k" ∷ codes "--agg" ∷ codes "total:v" ∷ []) ≡ None }
-{
-}
+{}
 
 /// What a request makes of a table's text.
 pub fn outcomes()
@@ -32,5 +31,4 @@ pub fn outcomes()
     ensures other_word { outcome keys_alone (codes "k,x:foo\na,b\n") ≡ Report (codes "k:str\na\n") }
     ensures missing_key { outcome by_day (codes "date,temp:i64\n2020-08-21,20\n") ≡ BadGroup }
     ensures text_sum { outcome sums_by_key (codes "k,v\na,b\n") ≡ BadGroup }
-{
-}
+{}
