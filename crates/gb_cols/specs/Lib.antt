@@ -1,5 +1,6 @@
 pub mod DataType
 pub mod Device
+pub mod FitsPool
 pub mod Memory
 pub mod PlSmallStr
 pub mod PolarsError

@@ -1,10 +1,18 @@
-use Rattle.std.specs.Prelude.{ℕ, ◌≤◌}
+-- What contracts see of a pool.
+use Rattle.std.specs.Prelude.{ℕ}
+use Rattle.gb_cols.specs.declared.pool.Pool.{Pool}
 
--- the values that a pool may have
-pub record FitsPool (workers partitions row_threshold piece_rows : ℕ) : Type 0 where
-  pub some_workers : 1 ≤ workers
-  pub few_workers : workers ≤ 64
-  pub some_partitions : 1 ≤ partitions
-  pub few_partitions : partitions ≤ 1024
-  pub threshold : 1 ≤ row_threshold
-  pub piece : 1 ≤ piece_rows
+abbrev pub workers_of : Pool → ℕ
+workers_of pool = pool.workers
+
+abbrev pub partitions_of : Pool → ℕ
+partitions_of pool = pool.partitions
+
+abbrev pub threshold_of : Pool → ℕ
+threshold_of pool = pool.row_threshold
+
+abbrev pub piece_of : Pool → ℕ
+piece_of pool = pool.piece_rows
+
+abbrev pub seed_of : Pool → ℕ
+seed_of pool = pool.seed
