@@ -1,0 +1,4 @@
+pub mod ChunkedLemmas
+pub mod FlagLemmas
+pub mod NumberLemmas
+pub mod TextLemmas

@@ -1,7 +1,10 @@
+pub mod Array
+pub mod Column
 pub mod DataType
 pub mod Device
 pub mod FitsPool
 pub mod Memory
+pub mod Native
 pub mod PlSmallStr
 pub mod PolarsError
 pub mod Pool

@@ -3,11 +3,17 @@
 //! from and go to, and the gate that pieces of work pass.
 #![tactic(auto)]
 
+pub mod array;
+pub mod chunked;
 pub mod data_type;
 pub mod device;
 pub mod error;
 pub mod memory;
+pub mod numeric;
 pub mod pool;
+pub mod primitive;
 pub mod small_str;
 pub mod sorted;
 pub mod standard;
+pub mod utf8;
+mod validity;

@@ -1,4 +1,4 @@
-use Rattle.std.proofs.Common.{◌≡◌, ◌∙◌, sym, ap, take, drop, length, ◌++◌, ◌+◌, ◌-◌, ◌≤◌, min, Some, List, ℕ, arith}
+use Rattle.std.proofs.Common.{◌≡◌, ◌∙◌, sym, ap, take, drop, length, ◌++◌, ◌+◌, ◌-◌, ◌≤◌, Some, List, ℕ, arith}
 use Rattle.std.proofs.lemmas.List.{take_at, take-append-drop, drop-drop, length-take}
 use Rattle.gb_cols.proofs.memory.SoundSourceSource.read.Goals as goal
 

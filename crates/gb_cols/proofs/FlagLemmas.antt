@@ -1,0 +1,103 @@
+-- Slots under their flags.
+use Rattle.std.proofs.Common.{◌≡◌, inl, inr, ℕ, zero, suc, ◌+◌, ◌≤◌, Bool, true, false, List, [], ◌∷◌, ◌++◌, length, refl, sym, ◌∙◌, ap, cond, arith, get_or, replicate, not}
+use Rattle.std.proofs.lemmas.List.{length-append, length-replicate}
+use Rattle.std.specs.List.{AllByRecursion, count_by}
+use Rattle.std.proofs.lemmas.List.Sums.{sum_by-append}
+use Rattle.gb_defs.specs.Slot.{Slot, Nil, Num, Bytes, Items, is_nil, slot_at}
+use Rattle.gb_cols.specs.Array.{FitsFlags, filled, flagged_slots, valid_pushed}
+
+pub flagged_none : (slots : List Slot) → flagged_slots slots [] ≡ slots
+flagged_none [] = refl
+flagged_none (slot ∷ slots) = ap (λ rest. slot ∷ rest) (flagged_none slots)
+
+pub flagged_length : (slots : List Slot) (flags : List Bool) → length (flagged_slots slots flags) ≡ length slots
+flagged_length [] flags = refl
+flagged_length (slot ∷ slots) [] = ap suc (flagged_length slots [])
+flagged_length (slot ∷ slots) (flag ∷ flags) = ap suc (flagged_length slots flags)
+
+flagged_push : (slots : List Slot) (flags : List Bool) (slot : Slot) (flag : Bool) → length flags ≡ length slots →
+    flagged_slots (slots ++ slot ∷ []) (flags ++ flag ∷ []) ≡ flagged_slots slots flags ++ cond flag slot Nil ∷ []
+flagged_push [] [] slot flag h = refl
+flagged_push [] (f ∷ flags) slot flag h = absurd (omega (arith, h))
+flagged_push (s ∷ slots) [] slot flag h = absurd (omega (arith, h))
+flagged_push (s ∷ slots) (f ∷ flags) slot flag h = ap (λ rest. cond f s Nil ∷ rest) (flagged_push slots flags slot flag (omega arith))
+
+-- flags that are all true hide nothing
+flagged_true : (slots : List Slot) (n : ℕ) → flagged_slots slots (replicate n true) ≡ slots
+flagged_true [] n = refl
+flagged_true (s ∷ slots) zero = flagged_none (s ∷ slots)
+flagged_true (s ∷ slots) (suc n) = ap (λ rest. s ∷ rest) (flagged_true slots n)
+
+pub flagged_at : (slots : List Slot) (flags : List Bool) (i : ℕ) → slot_at (flagged_slots slots flags) i ≡ cond (get_or flags i true) (slot_at slots i) Nil
+flagged_at [] [] i = refl
+flagged_at [] (f ∷ flags) i = elim (get_or (f ∷ flags) i true) as (λ b. Nil ≡ cond b Nil Nil) [ true ↦ refl | false ↦ refl ]
+flagged_at (s ∷ slots) [] i = ap (λ ss. slot_at ss i) (flagged_none (s ∷ slots))
+flagged_at (s ∷ slots) (f ∷ flags) zero = refl
+flagged_at (s ∷ slots) (f ∷ flags) (suc i) = flagged_at slots flags i
+
+-- ---- one slot more
+
+pub flagged_valid : (slots : List Slot) (flags : List Bool) (slot : Slot) → FitsFlags (length flags) (length slots) →
+    flagged_slots (slots ++ slot ∷ []) (valid_pushed flags) ≡ flagged_slots slots flags ++ slot ∷ []
+flagged_valid slots [] slot fits = flagged_none (slots ++ slot ∷ []) ∙ ap (λ ss. ss ++ slot ∷ []) (sym (flagged_none slots))
+flagged_valid slots (f ∷ flags) slot (inl none) = absurd (omega arith)
+flagged_valid slots (f ∷ flags) slot (inr each) = flagged_push slots (f ∷ flags) slot true each
+
+pub flagged_null : (slots : List Slot) (flags : List Bool) (slot : Slot) (count : ℕ) → count ≡ length slots → FitsFlags (length flags) (length slots) →
+    flagged_slots (slots ++ slot ∷ []) (filled count flags ++ false ∷ []) ≡ flagged_slots slots flags ++ Nil ∷ []
+flagged_null slots [] slot count long fits =
+    flagged_push slots (replicate count true) slot false (length-replicate count true ∙ long)
+    ∙ ap (λ ss. ss ++ Nil ∷ []) (flagged_true slots count ∙ sym (flagged_none slots))
+flagged_null slots (f ∷ flags) slot count long (inl none) = absurd (omega arith)
+flagged_null slots (f ∷ flags) slot count long (inr each) = flagged_push slots (f ∷ flags) slot false each
+
+pub fits_valid : (flags : List Bool) (count : ℕ) → FitsFlags (length flags) count → FitsFlags (length (valid_pushed flags)) (count + 1)
+fits_valid [] count fits = inl refl
+fits_valid (f ∷ flags) count (inl none) = absurd (omega arith)
+fits_valid (f ∷ flags) count (inr each) = inr (omega (arith, length-append flags (true ∷ [])))
+
+pub fits_null : (flags : List Bool) (count : ℕ) → FitsFlags (length flags) count → FitsFlags (length (filled count flags ++ false ∷ [])) (count + 1)
+fits_null [] count fits = inr (omega (arith, length-append (replicate count true) (false ∷ []), length-replicate count true))
+fits_null (f ∷ flags) count (inl none) = absurd (omega arith)
+fits_null (f ∷ flags) count (inr each) = inr (omega (arith, length-append (f ∷ flags) (false ∷ [])))
+
+-- ---- whether a slot is null
+
+pub nil_from : (slot : Slot) → is_nil slot ≡ true → slot ≡ Nil
+nil_from Nil e = refl
+nil_from (Num n) e = cc
+nil_from (Bytes bs) e = cc
+nil_from (Items ss) e = cc
+
+-- a slot that is no null, under its flag
+pub flag_tells : (flag : Bool) (slot : Slot) → is_nil slot ≡ false → flag ≡ not (is_nil (cond flag slot Nil))
+flag_tells true slot e = rw e
+flag_tells false slot e = refl
+
+-- ---- how many are null
+
+count_yes : {X : Type 0} (p : X → Bool) (x : X) (xs : List X) → p x ≡ true → count_by p (x ∷ xs) ≡ 1 + count_by p xs
+count_yes p x xs e =
+    let split : count_by p (x ∷ xs) ≡ (0 + cond (p x) 1 0) + count_by p xs = sum_by-append (λ y. cond (p y) 1 0) (x ∷ []) xs in
+    let one : ◌≡◌ {A = ℕ} (cond (p x) 1 0) 1 = ap (λ b. cond b 1 0) e in
+    omega (arith, split, one)
+
+count_no : {X : Type 0} (p : X → Bool) (x : X) (xs : List X) → p x ≡ false → count_by p (x ∷ xs) ≡ count_by p xs
+count_no p x xs e =
+    let split : count_by p (x ∷ xs) ≡ (0 + cond (p x) 1 0) + count_by p xs = sum_by-append (λ y. cond (p y) 1 0) (x ∷ []) xs in
+    let none : ◌≡◌ {A = ℕ} (cond (p x) 1 0) 0 = ap (λ b. cond b 1 0) e in
+    omega (arith, split, none)
+
+pub flagged_nulls : (slots : List Slot) (flags : List Bool) → AllByRecursion (λ slot. is_nil slot ≡ false) slots → length flags ≤ length slots →
+    count_by not flags ≡ count_by is_nil (flagged_slots slots flags)
+flagged_nulls [] [] none le = refl
+flagged_nulls [] (f ∷ flags) none le = absurd (omega arith)
+flagged_nulls (s ∷ slots) [] none le = flagged_nulls slots [] none.1 (omega arith) ∙ sym (count_no is_nil s (flagged_slots slots []) none.0)
+flagged_nulls (s ∷ slots) (true ∷ flags) none le =
+    count_no not true flags refl ∙ flagged_nulls slots flags none.1 (omega arith) ∙ sym (count_no is_nil s (flagged_slots slots flags) none.0)
+flagged_nulls (s ∷ slots) (false ∷ flags) none le =
+    count_yes not false flags refl ∙ ap (λ n. 1 + n) (flagged_nulls slots flags none.1 (omega arith)) ∙ sym (count_yes is_nil Nil (flagged_slots slots flags) refl)
+
+pub flags_few : (flags count : ℕ) → FitsFlags flags count → flags ≤ count
+flags_few flags count (inl none) = omega (arith, none)
+flags_few flags count (inr each) = omega (arith, each)

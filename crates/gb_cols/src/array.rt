@@ -1,0 +1,54 @@
+ghost use Rattle.std.specs.Prelude.{◌≡◌, ℕ, ◌+◌, ◌++◌, ◌∷◌, ◌<◌, [], List, not, length, IfOk, OnOk, OnErr};
+ghost use Rattle.std.specs.List.{count_by};
+ghost use Rattle.gb_defs.specs.Slot.{Slot, Nil, is_nil, slot_at};
+ghost use Rattle.gb_defs.specs.ColumnType.{ColumnType};
+ghost use Rattle.gb_cols.specs.DataType.{type_of};
+
+use crate::data_type::DataType;
+use std::alloc::{AllocError, Global};
+
+/// How the slots of one chunk of a column are stored.
+pub trait Array: Drop {
+    // The slots, in order.
+    ghost slots: { Self → List Slot };
+
+    // The type of a column that is stored so.
+    ghost dtype: { ColumnType };
+
+    /// No slots, and no memory.
+    fn empty(alloc: Global) -> Self
+        ensures { slots result ≡ [] };
+
+    fn data_type() -> DataType
+        ensures { type_of result ≡ dtype };
+
+    fn len(&self) -> usize
+        ensures { result ≡ length (slots self.now) };
+
+    /// Whether the slot at a place is no null.
+    fn is_valid(&self, i: usize) -> bool
+        requires { i < length (slots self.now) }
+        ensures { result ≡ not (is_nil (slot_at (slots self.now) i)) };
+
+    /// Makes room for so many slots more, as far as their number tells how much that is.
+    fn reserve(&mut self, additional: usize) -> Result<(), AllocError>
+        ensures { slots self.new ≡ slots self.old };
+
+    fn null_count(&self) -> usize
+        ensures { result ≡ count_by is_nil (slots self.now) };
+
+    /// One null more at the end.
+    fn push_null(&mut self) -> Result<(), AllocError>
+        ensures ok { OnOk result (slots self.new ≡ slots self.old ++ Nil ∷ []) }
+        ensures err { OnErr result (slots self.new ≡ slots self.old) };
+
+    /// The other's slot at a place, once more at the end.
+    fn push_from(&mut self, other: &Self, i: usize) -> Result<(), AllocError>
+        requires { i < length (slots other.now) }
+        ensures ok { OnOk result (slots self.new ≡ slots self.old ++ slot_at (slots other.now) i ∷ []) }
+        ensures err { OnErr result (slots self.new ≡ slots self.old) };
+
+    /// The same slots.
+    fn try_clone(&self) -> Result<Self, AllocError>
+        ensures { IfOk result (λ copy. slots copy ≡ slots self.now) };
+}

@@ -1,0 +1,202 @@
+ghost use Rattle.std.specs.Prelude.{◌≡◌, ◌==◌, ℕ, ◌+◌, ◌<◌, ◌≤◌, ◌∷◌, ◌++◌, ◌^◌, [], pos, length, map, IfOk, IfErr, OnOk, OnErr, All};
+ghost use Rattle.gb_defs.specs.Slot.{Slot, Nil, slot_at};
+
+mod numbers;
+mod texts;
+
+use crate::array::Array;
+use crate::data_type::DataType;
+use crate::error::PolarsResult;
+use crate::numeric::{Int64Type, PolarsNumericType, UInt32Type};
+use crate::primitive::PrimitiveArray;
+use crate::small_str::PlSmallStr;
+use crate::sorted::IsSorted;
+use crate::utf8::Utf8Array;
+use std::alloc::Global;
+use std::marker::Model;
+
+/// A named column of any storage: its chunks in order, the last one apart, so that there is one always.
+#[derive(Drop)]
+pub struct ChunkedArray<A: Array> {
+    name: PlSmallStr,
+    earlier: Vec<A>,
+    last: A,
+    sorted: IsSorted,
+}
+
+pub type Int64Chunked = ChunkedArray<PrimitiveArray<Int64Type>>;
+
+pub type UInt32Chunked = ChunkedArray<PrimitiveArray<UInt32Type>>;
+
+pub type IdxCa = UInt32Chunked;
+
+pub type StringChunked = ChunkedArray<Utf8Array>;
+
+impl<A: Array> Model for ChunkedArray<A> {
+    ghost use Rattle.std.specs.Prelude.{List, map, length, ℕ, ◌<◌, ◌^◌, false, ◌++◌, ◌∷◌, []};
+    ghost use Rattle.std.specs.List.{flat_map};
+    ghost use Rattle.gb_defs.specs.Column.{ColumnValue, IsFlagTrue, column_code};
+    ghost use Rattle.gb_cols.specs.Sorted.{flag_of};
+    ghost use Rattle.gb_cols.specs.PlSmallStr.{text_of};
+
+    ghost Value = { ColumnValue };
+
+    ghost coded = { column_code };
+
+    ghost view = { λ c. record { name = text_of c.name; dtype = A.dtype; slots = flat_map A.slots (c.earlier.items ++ c.last ∷ []); chunks = map (λ a. length (A.slots a)) (c.earlier.items ++ c.last ∷ []); sorted = flag_of c.sorted; all_used = false } };
+
+    ghost invariant = { λ c. IsFlagTrue (flag_of c.sorted) A.dtype (flat_map A.slots (c.earlier.items ++ c.last ∷ [])) × (length (flat_map A.slots (c.earlier.items ++ c.last ∷ [])) < 2 ^ 63) };
+}
+
+impl<A: Array> ChunkedArray<A> {
+    ghost use Rattle.gb_cols.specs.PlSmallStr.{text_of, IsNoMemory};
+    ghost use Rattle.gb_cols.specs.DataType.{type_of};
+    ghost use Rattle.gb_cols.specs.Column.{pushed};
+    ghost use Rattle.gb_cols.specs.Sorted.{flag_of};
+    ghost use Rattle.std.specs.List.{count_by};
+    ghost use Rattle.gb_defs.specs.Slot.{is_nil};
+    ghost use Rattle.gb_defs.specs.Column.{plain_column};
+
+    /// No slots.
+    pub fn new(alloc: Global, name: PlSmallStr) -> Self
+        ensures { result ≡ plain_column (text_of name) A.dtype [] }
+    {
+        ChunkedArray {
+            name,
+            earlier: Vec::new(alloc),
+            last: A::empty(alloc),
+            sorted: IsSorted::Not,
+        }
+    }
+
+    // The column of one chunk.
+    fn from_chunk(alloc: Global, name: PlSmallStr, chunk: A) -> Self
+        requires { length (A.slots chunk) < 2 ^ 63 }
+        ensures { result ≡ plain_column (text_of name) A.dtype (A.slots chunk) }
+    {
+        ChunkedArray {
+            name,
+            earlier: Vec::new(alloc),
+            last: chunk,
+            sorted: IsSorted::Not,
+        }
+    }
+
+    pub fn name(&self) -> &PlSmallStr
+        ensures { text_of result.now ≡ self.now.name }
+    {
+        &self.name
+    }
+
+    pub fn allocator(&self) -> Global {
+        *self.earlier.allocator()
+    }
+
+    /// The type. It takes no memory today.
+    pub fn dtype(&self) -> PolarsResult<DataType>
+        ensures ok { IfOk result (λ dtype. type_of dtype ≡ self.now.dtype) }
+        ensures err { IfErr result IsNoMemory }
+    {
+        let _ = &self.name;
+        Ok(A::data_type())
+    }
+
+    /// One pass over the chunks.
+    pub fn len(&self) -> usize
+        ensures value { result ≡ length self.now.slots }
+        ensures small { result < 2 ^ 63 }
+    {
+        let mut total = 0;
+        for chunk in &self.earlier {
+            total += chunk.len();
+        }
+        total + self.last.len()
+    }
+
+    pub fn is_empty(&self) -> bool
+        ensures { result ≡ (length self.now.slots == 0) }
+    {
+        self.len() == 0
+    }
+
+    /// One pass over the chunks.
+    pub fn null_count(&self) -> usize
+        ensures { result ≡ count_by is_nil self.now.slots }
+    {
+        let mut total = 0;
+        for chunk in &self.earlier {
+            total += chunk.null_count();
+        }
+        total + self.last.null_count()
+    }
+
+    pub fn is_sorted_flag(&self) -> IsSorted
+        ensures { flag_of result ≡ self.now.sorted }
+    {
+        self.sorted
+    }
+
+    pub fn rename(&mut self, name: PlSmallStr)
+        ensures { self.new ≡ record self.old { name = text_of name } }
+    {
+        self.name = name;
+    }
+
+    /// Makes room for so many slots more in the last chunk.
+    pub fn reserve(&mut self, additional: usize) -> PolarsResult<()>
+        ensures same { self.new ≡ self.old }
+        ensures err { IfErr result IsNoMemory }
+    {
+        self.last.reserve(additional)?;
+        Ok(())
+    }
+
+    /// One null more at the end of the last chunk.
+    pub fn push_null(&mut self) -> PolarsResult<()>
+        requires { length self.old.slots + 1 < 2 ^ 63 }
+        ensures ok { OnOk result (self.new ≡ pushed self.old Nil) }
+        ensures err { IfErr result IsNoMemory }
+        ensures unchanged { OnErr result (self.new ≡ self.old) }
+    {
+        self.last.push_null()?;
+        self.sorted = IsSorted::Not;
+        Ok(())
+    }
+
+    /// The slots of these rows, in one chunk.
+    pub fn take(&self, rows: &[u32]) -> PolarsResult<Self>
+        requires in_range { All (λ row. row < length self.now.slots) rows.now }
+        requires few { length rows.now < 2 ^ 63 }
+        ensures ok { IfOk result (λ c. c ≡ plain_column self.now.name self.now.dtype (map (slot_at self.now.slots) rows.now)) }
+        ensures err { IfErr result IsNoMemory }
+    {
+        let mut taken = A::empty(self.allocator());
+        taken.reserve(rows.len())?;
+        for row in rows {
+            let (chunk, place) = self.locate(*row as usize);
+            taken.push_from(chunk, place)?;
+        }
+        Ok(ChunkedArray {
+            name: self.name.try_clone()?,
+            earlier: Vec::new(self.allocator()),
+            last: taken,
+            sorted: IsSorted::Not,
+        })
+    }
+
+    // The chunk that a row stands in, and its place there.
+    fn locate(&self, row: usize) -> (&A, usize)
+        requires { row < length self.now.slots }
+        ensures inside { result.1 < length (A.slots result.0.now) }
+        ensures slot { slot_at (A.slots result.0.now) result.1 ≡ slot_at self.now.slots row }
+    {
+        let mut place = row;
+        for chunk in &self.earlier {
+            if place < chunk.len() {
+                return (chunk, place);
+            }
+            place -= chunk.len();
+        }
+        (&self.last, place)
+    }
+}

@@ -1,0 +1,66 @@
+ghost use Rattle.std.specs.Prelude.{◌≡◌, ℕ, ◌+◌, ◌<◌, ◌^◌, length, map, IfOk, IfErr, OnOk, OnErr};
+ghost use Rattle.gb_defs.specs.Slot.{Num, slot_at};
+ghost use Rattle.gb_defs.specs.Column.{plain_column};
+ghost use Rattle.gb_cols.specs.Array.{number_slot_of};
+ghost use Rattle.gb_cols.specs.Column.{pushed};
+ghost use Rattle.gb_cols.specs.PlSmallStr.{text_of, IsNoMemory};
+
+use super::ChunkedArray;
+use crate::array::Array;
+use crate::error::PolarsResult;
+use crate::numeric::PolarsNumericType;
+use crate::primitive::PrimitiveArray;
+use crate::small_str::PlSmallStr;
+use crate::sorted::IsSorted;
+use std::alloc::Global;
+
+impl<T: PolarsNumericType> ChunkedArray<PrimitiveArray<T>> {
+    /// These numbers in one chunk, none of them null.
+    pub fn from_slice(alloc: Global, name: PlSmallStr, v: &[T::Native]) -> PolarsResult<Self>
+        requires { length v.now < 2 ^ 63 }
+        ensures ok { IfOk result (λ c. c ≡ plain_column (text_of name) T.dtype (map (λ n. Num (T.number n)) v.now)) }
+        ensures err { IfErr result IsNoMemory }
+    {
+        let chunk = PrimitiveArray::from_slice(alloc, v)?;
+        Ok(ChunkedArray::from_chunk(alloc, name, chunk))
+    }
+
+    /// These numbers in one chunk, `None` as null.
+    pub fn from_slice_options(
+        alloc: Global,
+        name: PlSmallStr,
+        v: &[Option<T::Native>],
+    ) -> PolarsResult<Self>
+        requires { length v.now < 2 ^ 63 }
+        ensures ok { IfOk result (λ c. c ≡ plain_column (text_of name) T.dtype (map (number_slot_of T.number) v.now)) }
+        ensures err { IfErr result IsNoMemory }
+    {
+        let mut chunk: PrimitiveArray<T> = PrimitiveArray::empty(alloc);
+        chunk.reserve(v.len())?;
+        for slot in v {
+            chunk.push(*slot)?;
+        }
+        Ok(ChunkedArray::from_chunk(alloc, name, chunk))
+    }
+
+    /// The number of a row.
+    pub fn get(&self, row: usize) -> Option<T::Native>
+        requires { row < length self.now.slots }
+        ensures { number_slot_of T.number result ≡ slot_at self.now.slots row }
+    {
+        let (chunk, place) = self.locate(row);
+        chunk.get(place)
+    }
+
+    /// One slot more at the end of the last chunk.
+    pub fn push(&mut self, slot: Option<T::Native>) -> PolarsResult<()>
+        requires { length self.old.slots + 1 < 2 ^ 63 }
+        ensures ok { OnOk result (self.new ≡ pushed self.old (number_slot_of T.number slot)) }
+        ensures err { IfErr result IsNoMemory }
+        ensures unchanged { OnErr result (self.new ≡ self.old) }
+    {
+        self.last.push(slot)?;
+        self.sorted = IsSorted::Not;
+        Ok(())
+    }
+}
