@@ -2,6 +2,7 @@
 //! call, and carries the theorem of what the program does.
 #![tactic(auto)]
 
+mod folds;
 mod request;
 mod status;
 

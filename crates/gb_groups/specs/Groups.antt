@@ -1,0 +1,12 @@
+-- The groups that row lists hold.
+use Rattle.std.specs.Prelude.{ℕ, List, map}
+use Rattle.std.specs.Borrow.{Bor}
+use Rattle.smallvec.specs.SmallVec.{SmallVec}
+
+-- the rows of each list
+abbrev pub lists_of : List (SmallVec ℕ) → List (List ℕ)
+lists_of lists = map (λ rows. rows.items) lists
+
+-- a group whose rows are lent
+abbrev pub lent_pair : ℕ × Bor (SmallVec ℕ) → ℕ × List ℕ
+lent_pair item = (item.0, item.1.now.items)

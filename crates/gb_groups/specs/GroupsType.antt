@@ -1,0 +1,7 @@
+-- Groups in either form, and what an iterator over them has left.
+use Rattle.gb_defs.specs.Groups.{Grouping}
+use Rattle.gb_groups.specs.declared.groups_type.GroupsType.{GroupsType}
+use Rattle.gb_groups.specs.declared.groups_type.GroupsType.TheVariants.{Idx}
+
+abbrev pub groups_of : GroupsType → Grouping
+groups_of (Idx groups) = groups

@@ -1,0 +1,3 @@
+pub mod Groups
+pub mod GroupsIndicator
+pub mod GroupsType

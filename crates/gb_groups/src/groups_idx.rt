@@ -1,0 +1,121 @@
+ghost use Rattle.std.specs.Prelude.{◌≡◌, ◌<◌, ℕ, List, [], length, IsTrue, ◌↔◌, ◌==◌, false, map, zip, slice_index_or};
+ghost use Rattle.std.specs.List.Sorted.{IsNonDecreasing};
+ghost use Rattle.gb_defs.specs.Groups.{Idx};
+
+use crate::iter::GroupsIdxIter;
+use smallvec::SmallVec;
+use std::alloc::Global;
+use std::marker::Model;
+
+/// A row, or a count of rows.
+pub type IdxSize = u32;
+
+/// The rows of a group. One row takes no allocation.
+pub type IdxVec = SmallVec<u32, 1>;
+
+/// A group: its first row and its rows.
+pub type IdxItem = (IdxSize, IdxVec);
+
+/// A group that is lent.
+pub type BorrowIdxItem<'a> = (IdxSize, &'a IdxVec);
+
+/// Groups by the first row and the list of rows of each.
+#[derive(Drop)]
+pub struct GroupsIdx {
+    first: Vec<IdxSize>,
+    all: Vec<IdxVec>,
+    sorted: bool,
+}
+
+impl Model for GroupsIdx {
+    ghost use Rattle.std.specs.Prelude.{◌≡◌, length, IsTrue, zip};
+    ghost use Rattle.std.specs.List.Sorted.{IsNonDecreasing};
+    ghost use Rattle.gb_defs.specs.Groups.{Grouping, Idx};
+    ghost use Rattle.gb_groups.specs.Groups.{lists_of};
+
+    ghost Value = { Grouping };
+
+    ghost view = { λ g. record { pairs = zip g.first.items (lists_of g.all.items); form = Idx; flagged = g.sorted } };
+
+    ghost invariant = { λ g. (length g.first.items ≡ length g.all.items) × (IsTrue g.sorted → IsNonDecreasing g.first.items) };
+}
+
+impl GroupsIdx {
+    ghost use Rattle.gb_groups.specs.Groups.{lists_of, lent_pair};
+
+    /// No groups, not flagged as sorted.
+    pub fn empty(alloc: Global) -> GroupsIdx
+        ensures { result ≡ record { pairs = []; form = Idx; flagged = false } }
+    {
+        GroupsIdx {
+            first: Vec::new(alloc),
+            all: Vec::new(alloc),
+            sorted: false,
+        }
+    }
+
+    /// Groups with these first rows and lists of rows.
+    pub fn new(first: Vec<IdxSize>, all: Vec<IdxVec>, sorted: bool) -> GroupsIdx
+        requires as_many { length first.items ≡ length all.items }
+        requires ascend { IsTrue sorted → IsNonDecreasing first.items }
+        ensures { result ≡ record { pairs = zip first.items (lists_of all.items); form = Idx; flagged = sorted } }
+    {
+        GroupsIdx { first, all, sorted }
+    }
+
+    /// Whether no row stands before a smaller one, as `new` asks of groups that are flagged as sorted.
+    pub fn firsts_ascend(first: &[IdxSize]) -> bool
+        ensures { IsTrue result ↔ IsNonDecreasing first.now }
+    {
+        first.is_sorted()
+    }
+
+    /// How many groups there are.
+    pub fn len(&self) -> usize
+        ensures { result ≡ length self.now.pairs }
+    {
+        self.first.len()
+    }
+
+    pub fn is_empty(&self) -> bool
+        ensures { result ≡ (length self.now.pairs == 0) }
+    {
+        self.first.is_empty()
+    }
+
+    /// The first row of each group.
+    pub fn first(&self) -> &[IdxSize]
+        ensures { result.now ≡ map (λ (p : ℕ × List ℕ). p.0) self.now.pairs }
+    {
+        self.first.as_slice()
+    }
+
+    /// The rows of each group.
+    pub fn all(&self) -> &[IdxVec]
+        ensures { lists_of result.now ≡ map (λ (p : ℕ × List ℕ). p.1) self.now.pairs }
+    {
+        self.all.as_slice()
+    }
+
+    /// One group.
+    pub fn get(&self, index: usize) -> BorrowIdxItem<'_>
+        requires { index < length self.now.pairs }
+        ensures { lent_pair result ≡ slice_index_or self.now.pairs index (0, []) }
+    {
+        (self.first[index], &self.all[index])
+    }
+
+    /// The groups in order.
+    pub fn iter(&self) -> GroupsIdxIter<'_>
+        ensures { result ≡ self.now.pairs }
+    {
+        GroupsIdxIter::new(self.first.as_slice(), self.all.as_slice())
+    }
+
+    /// Whether the first rows are known to ascend.
+    pub fn is_sorted_flag(&self) -> bool
+        ensures { result ≡ self.now.flagged }
+    {
+        self.sorted
+    }
+}

@@ -1,0 +1,153 @@
+ghost use Rattle.std.specs.Prelude.{◌≡◌, ◌<◌, ◌==◌, [], length, slice_index_or};
+
+use crate::groups_idx::{BorrowIdxItem, GroupsIdx};
+use crate::iter::GroupsTypeIter;
+
+/// Groups in the form that the path to them gave.
+#[derive(Drop)]
+pub enum GroupsType {
+    Idx(GroupsIdx),
+}
+
+/// One group, lent in the form that it has.
+#[derive(Drop)]
+pub enum GroupsIndicator<'a> {
+    Idx(BorrowIdxItem<'a>),
+}
+
+impl<'a> GroupsIndicator<'a> {
+    ghost use Rattle.gb_groups.specs.GroupsIndicator.{pair_of};
+
+    /// How many rows the group has.
+    pub fn len(&self) -> usize
+        ensures { result ≡ length (pair_of self.now).1 }
+    {
+        match self {
+            GroupsIndicator::Idx((_, rows)) => rows.len(),
+        }
+    }
+
+    pub fn is_empty(&self) -> bool
+        ensures { result ≡ (length (pair_of self.now).1 == 0) }
+    {
+        self.len() == 0
+    }
+
+    /// The first row of the group.
+    pub fn first(&self) -> u32
+        ensures { result ≡ (pair_of self.now).0 }
+    {
+        match self {
+            GroupsIndicator::Idx((first, _)) => *first,
+        }
+    }
+}
+
+impl From<GroupsIdx> for GroupsType {
+    ghost use Rattle.gb_groups.specs.GroupsType.{groups_of};
+
+    ghost from_gives = { λ groups made. groups_of made ≡ groups };
+
+    fn from(groups: GroupsIdx) -> GroupsType {
+        GroupsType::Idx(groups)
+    }
+}
+
+impl GroupsType {
+    ghost use Rattle.gb_groups.specs.GroupsType.{groups_of};
+    ghost use Rattle.gb_groups.specs.GroupsIndicator.{pair_of};
+
+    /// How many groups there are.
+    pub fn len(&self) -> usize
+        ensures { result ≡ length (groups_of self.now).pairs }
+    {
+        match self {
+            GroupsType::Idx(groups) => groups.len(),
+        }
+    }
+
+    pub fn is_empty(&self) -> bool
+        ensures { result ≡ (length (groups_of self.now).pairs == 0) }
+    {
+        self.len() == 0
+    }
+
+    /// Whether the first rows are known to ascend.
+    pub fn is_sorted_flag(&self) -> bool
+        ensures { result ≡ (groups_of self.now).flagged }
+    {
+        match self {
+            GroupsType::Idx(groups) => groups.is_sorted_flag(),
+        }
+    }
+
+    /// One group.
+    pub fn get(&self, index: usize) -> GroupsIndicator<'_>
+        requires { index < length (groups_of self.now).pairs }
+        ensures { pair_of result ≡ slice_index_or (groups_of self.now).pairs index (0, []) }
+    {
+        match self {
+            GroupsType::Idx(groups) => GroupsIndicator::Idx(groups.get(index)),
+        }
+    }
+
+    /// The groups in order.
+    pub fn iter(&self) -> GroupsTypeIter<'_>
+        ensures { result ≡ (groups_of self.now).pairs }
+    {
+        match self {
+            GroupsType::Idx(groups) => GroupsTypeIter::over_lists(groups.iter()),
+        }
+    }
+
+    /// The groups as row lists.
+    pub fn unwrap_idx(&self) -> &GroupsIdx
+        ensures { result.now ≡ groups_of self.now }
+    {
+        match self {
+            GroupsType::Idx(groups) => groups,
+        }
+    }
+}
+
+#[cfg(test)]
+mod tests {
+    use super::*;
+    use crate::groups_idx::IdxVec;
+    use smallvec::SmallVec;
+    use std::alloc::Global;
+    use std::test::Fail;
+
+    // Rows 0 and 2, and row 1.
+    fn two_groups(alloc: Global) -> Result<GroupsType, Fail> {
+        let mut all: Vec<IdxVec> = Vec::new(alloc);
+        all.push(SmallVec::from_slice(alloc, &[0, 2])?)?;
+        all.push(SmallVec::from_slice(alloc, &[1])?)?;
+        let first = vec![in alloc; 0, 1]?;
+        Ok(GroupsType::from(GroupsIdx::new(first, all, false)))
+    }
+
+    #[test]
+    fn groups_are_read_in_order(rt: HostRuntime) -> Result<(), Fail> {
+        let groups = two_groups(rt.alloc())?;
+        assert_eq!(rt; groups.len(), 2);
+        assert!(rt; !groups.is_empty());
+        assert!(rt; !groups.is_sorted_flag());
+        let rows = [2, 1];
+        let mut seen = 0;
+        for (group, count) in groups.iter().zip(rows.iter()) {
+            assert_eq!(rt; group.len(), *count);
+            assert_eq!(rt; group.first(), seen);
+            assert!(rt; !group.is_empty());
+            seen = 1;
+        }
+        let lists = groups.unwrap_idx();
+        assert_eq!(rt; lists.first(), [0, 1].as_slice());
+        assert_eq!(rt; lists.all().len(), 2);
+        assert!(rt; GroupsIdx::firsts_ascend(lists.first()));
+        assert!(rt; !GroupsIdx::firsts_ascend(&[1, 0]));
+        assert_eq!(rt; lists.iter().count(), 2);
+        assert!(rt; GroupsIdx::empty(rt.alloc()).is_empty());
+        Ok(())
+    }
+}

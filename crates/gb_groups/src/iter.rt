@@ -1,0 +1,88 @@
+//! Iterators over groups, in order.
+
+ghost use Rattle.std.specs.Prelude.{◌≡◌, length, zip};
+ghost use Rattle.std.specs.Iterator.{YieldsFirstBy, item_count};
+ghost use Rattle.gb_groups.specs.Groups.{lists_of, lent_pair};
+
+use crate::groups_idx::{BorrowIdxItem, IdxSize, IdxVec};
+use crate::groups_type::GroupsIndicator;
+use std::marker::Model;
+
+/// The groups that are left, seen as their list.
+#[derive(Drop)]
+pub struct GroupsIdxIter<'a> {
+    first: &'a [IdxSize],
+    all: &'a [IdxVec],
+}
+
+impl<'a> Model for GroupsIdxIter<'a> {
+    ghost use Rattle.std.specs.Prelude.{◌≡◌, ℕ, List, length, zip};
+    ghost use Rattle.gb_groups.specs.Groups.{lists_of};
+
+    ghost Value = { List (ℕ × List ℕ) };
+
+    ghost view = { λ it. zip it.first.now (lists_of it.all.now) };
+
+    ghost invariant = { λ it. length it.first.now ≡ length it.all.now };
+}
+
+impl<'a> GroupsIdxIter<'a> {
+    pub(crate) fn new(first: &'a [IdxSize], all: &'a [IdxVec]) -> GroupsIdxIter<'a>
+        requires { length first.now ≡ length all.now }
+        ensures { result ≡ zip first.now (lists_of all.now) }
+    {
+        GroupsIdxIter { first, all }
+    }
+}
+
+impl<'a> Iterator for GroupsIdxIter<'a> {
+    type Item = BorrowIdxItem<'a>;
+
+    ghost next_gives = { YieldsFirstBy lent_pair (λ rest. rest) };
+
+    ghost remaining = { item_count (λ rest. rest) };
+
+    fn next(&mut self) -> Option<BorrowIdxItem<'a>> {
+        let (first, later_firsts) = self.first.split_first()?;
+        let (rows, later_rows) = self.all.split_first()?;
+        self.first = later_firsts;
+        self.all = later_rows;
+        Some((*first, rows))
+    }
+}
+
+/// The groups that are left, in the form that they have.
+#[derive(Drop)]
+pub struct GroupsTypeIter<'a> {
+    groups: GroupsIdxIter<'a>,
+}
+
+impl<'a> Model for GroupsTypeIter<'a> {
+    ghost use Rattle.std.specs.Prelude.{ℕ, List};
+
+    ghost Value = { List (ℕ × List ℕ) };
+
+    ghost view = { λ it. it.groups };
+}
+
+impl<'a> GroupsTypeIter<'a> {
+    pub(crate) fn over_lists(groups: GroupsIdxIter<'a>) -> GroupsTypeIter<'a>
+        ensures { result ≡ groups.entry }
+    {
+        GroupsTypeIter { groups }
+    }
+}
+
+impl<'a> Iterator for GroupsTypeIter<'a> {
+    ghost use Rattle.gb_groups.specs.GroupsIndicator.{pair_of};
+
+    type Item = GroupsIndicator<'a>;
+
+    ghost next_gives = { YieldsFirstBy pair_of (λ rest. rest) };
+
+    ghost remaining = { item_count (λ rest. rest) };
+
+    fn next(&mut self) -> Option<GroupsIndicator<'a>> {
+        Some(GroupsIndicator::Idx(self.groups.next()?))
+    }
+}

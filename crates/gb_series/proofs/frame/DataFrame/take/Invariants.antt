@@ -1,0 +1,6 @@
+use Rattle.std.proofs.Common.{◌≡◌, map, take}
+use Rattle.gb_series.specs.Series.{taken, value_of}
+use Rattle.gb_series.proofs.frame.DataFrame.take.Given as goal
+
+abbrev pub invariant-loop-column : goal.invariant-loop-column
+invariant-loop-column l = map value_of l.columns.items ≡ map (taken l.rows) (map value_of (take l.column-index l.column-items))

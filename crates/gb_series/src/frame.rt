@@ -1,0 +1,116 @@
+mod columns;
+
+ghost use Rattle.std.specs.Prelude.{◌≡◌, ◌==◌, ℕ, ◌<◌, ◌^◌, length, map, None, Some, IfOk, IfErr, IfSome, IfNone, All, slice_get};
+ghost use Rattle.gb_defs.specs.Column.{find_column, frame_height, IsFrame};
+ghost use Rattle.gb_cols.specs.PlSmallStr.{IsNoMemory};
+ghost use Rattle.gb_cols.specs.PolarsError.{Explains};
+
+use crate::series::{Column, Series};
+use gb_cols::error::{PolarsError, PolarsResult};
+use gb_cols::small_str::PlSmallStr;
+use std::marker::Model;
+
+/// Columns of one length with different names.
+#[derive(Drop)]
+pub struct DataFrame {
+    columns: Vec<Series>,
+}
+
+impl Model for DataFrame {
+    ghost use Rattle.std.specs.Prelude.{map};
+    ghost use Rattle.gb_defs.specs.Column.{Frame, frame_code};
+    ghost use Rattle.gb_series.specs.Frame.{IsSmallFrame};
+    ghost use Rattle.gb_series.specs.Series.{value_of};
+
+    ghost Value = { Frame };
+
+    ghost coded = { frame_code };
+
+    ghost view = { λ f. map value_of f.columns.items };
+
+    ghost invariant = { λ f. IsSmallFrame (map value_of f.columns.items) };
+}
+
+impl DataFrame {
+    ghost use Rattle.gb_series.specs.Frame.{frame_fault, missing_column};
+    ghost use Rattle.gb_series.specs.Series.{taken, value_of};
+
+    /// The frame of these columns, unless two have one name or their lengths differ.
+    pub fn new(columns: Vec<Column>) -> PolarsResult<DataFrame>
+        ensures ok { IfOk result (λ f. (f ≡ map value_of columns.items) × (frame_fault (map value_of columns.items) ≡ None)) }
+        ensures err { IfErr result (λ e. Explains e (frame_fault (map value_of columns.items))) }
+    {
+        if let Some(name) = columns::repeated_name(&columns)? {
+            return Err(PolarsError::Duplicate(name.try_clone()?));
+        }
+        let height = columns::height_of(&columns);
+        if !columns::all_have_length(&columns, height) {
+            return Err(PolarsError::ShapeMismatch);
+        }
+        Ok(DataFrame { columns })
+    }
+
+    /// How many rows there are, 0 without columns.
+    pub fn height(&self) -> usize
+        ensures value { result ≡ frame_height self.now }
+        ensures small { result < 2 ^ 63 }
+        ensures frame { IsFrame self.now }
+    {
+        columns::height_of(&self.columns)
+    }
+
+    /// How many columns there are.
+    pub fn width(&self) -> usize
+        ensures { result ≡ length self.now }
+    {
+        self.columns.len()
+    }
+
+    /// Whether there are no rows.
+    pub fn is_empty(&self) -> bool
+        ensures { result ≡ (frame_height self.now == 0) }
+    {
+        self.height() == 0
+    }
+
+    pub fn get_columns(&self) -> &[Column]
+        ensures { map value_of result.now ≡ self.now }
+    {
+        &self.columns
+    }
+
+    /// Where the column of this name stands.
+    pub fn position(&self, name: &str) -> Option<usize>
+        ensures some { IfSome result (λ place. slice_get self.now place ≡ find_column self.now name.now) }
+        ensures none { IfNone result (find_column self.now name.now ≡ None) }
+    {
+        columns::position_of(&self.columns, name)
+    }
+
+    /// The column of this name.
+    pub fn column(&self, name: &str) -> PolarsResult<&Column>
+        ensures ok { IfOk result (λ column. find_column self.now name.now ≡ Some (value_of column.now)) }
+        ensures err { IfErr result (λ e. Explains e (missing_column self.now name.now)) }
+    {
+        match columns::position_of(&self.columns, name) {
+            Some(place) => Ok(&self.columns[place]),
+            None => {
+                let name = PlSmallStr::from_str(*self.columns.allocator(), name)?;
+                Err(PolarsError::ColumnNotFound(name))
+            }
+        }
+    }
+
+    /// The slots of these rows, in one chunk a column.
+    pub fn take(&self, rows: &[u32]) -> PolarsResult<DataFrame>
+        requires { All (λ row. row < frame_height self.now) rows.now }
+        ensures ok { IfOk result (λ f. f ≡ map (taken rows.now) self.now) }
+        ensures err { IfErr result IsNoMemory }
+    {
+        let mut columns = Vec::with_capacity(*self.columns.allocator(), self.columns.len())?;
+        for column in &self.columns {
+            columns.push(column.take(rows)?)?;
+        }
+        Ok(DataFrame { columns })
+    }
+}

@@ -1,0 +1,5 @@
+//! A column of any type, and frames of columns: what contracts see of a frame is the list of its columns.
+#![tactic(auto)]
+
+pub mod frame;
+pub mod series;
