@@ -83,12 +83,16 @@ impl<A: Array> ChunkedArray<A> {
     }
 
     pub fn name(&self) -> &PlSmallStr
-        ensures { text_of result.now ≡ self.now.name }
+        ensures name { text_of result.now ≡ self.now.name }
+        ensures typed { self.now.dtype ≡ A.dtype }
     {
         &self.name
     }
 
-    pub fn allocator(&self) -> Global {
+    /// What its chunks are allocated by. Its type is that of its storage.
+    pub fn allocator(&self) -> Global
+        ensures typed { self.now.dtype ≡ A.dtype }
+    {
         *self.earlier.allocator()
     }
 

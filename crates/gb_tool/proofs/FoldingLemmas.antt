@@ -1,16 +1,36 @@
 -- The loops that make the columns of an answer.
-use Rattle.std.proofs.Common.{◌≡◌, ℕ, ◌+◌, ◌<◌, ℤ, ◌+ℤ◌, List, ◌++◌, ◌∷◌, [], Option, Some, None, length, map, take, get_or, refl, sym, ◌∙◌, ap, false, arith}
+use Rattle.std.proofs.Common.{◌≡◌, ℕ, ◌+◌, ◌<◌, ℤ, ◌+ℤ◌, List, ◌++◌, ◌∷◌, [], Option, Some, None, length, map, take, get_or, refl, sym, ◌∙◌, ap, Bool, true, false, arith}
 use Rattle.std.specs.Option.{MatchOption}
 use Rattle.std.proofs.lemmas.List.{length_push, length-map, get_or-map, map_more}
 use Rattle.smallvec.specs.SmallVec.{SmallVec}
 use Rattle.gb_groups.specs.Groups.{lists_of}
 use Rattle.gb_defs.specs.Slot.{Slot, Nil, Num}
-use Rattle.gb_defs.specs.ColumnType.{ColumnType}
-use Rattle.gb_defs.specs.Column.{ColumnValue, NotSorted, plain_column}
-use Rattle.gb_defs.specs.Fold.{wrap, total, valid}
+use Rattle.gb_defs.specs.ColumnType.{ColumnType, uint32}
+use Rattle.gb_defs.specs.Answer.{aggregated, answer_name}
+use Rattle.gb_tool.specs.Folds.{sum_of, valid_count}
+use Rattle.gb_defs.specs.Column.{ColumnValue, NotSorted, content, plain_column}
+use Rattle.gb_defs.specs.Fold.{Sum, Count, fold_picked, fold_of, number_slot, sum_type, wrap, total, valid}
 use Rattle.gb_defs.proofs.FoldLemmas.{sum_push_null, sum_push_value}
 use Rattle.gb_cols.specs.Array.{number_slot_of}
 use Rattle.gb_cols.specs.Column.{pushed}
+
+-- the columns are the aggregates
+module _ (name : List ℕ) (c : ColumnValue) (lists : List (List ℕ)) where
+  pub sums_are : content (plain_column (answer_name name Sum) (sum_type c.dtype) (map (sum_of c) lists)) ≡ aggregated (name, Sum) (Some c) lists
+  unfolding fold_picked
+  sums_are = refl
+
+  pub counts_are : (all : Bool) → content (plain_column (answer_name name (Count all)) uint32 (map (fold_of (Count all) c.dtype c.slots) lists)) ≡ aggregated (name, Count all) (Some c) lists
+  counts_are all = refl
+
+  -- how the two counts fold
+  pub counted_rows : (λ (rows : List ℕ). number_slot (length rows)) ≡ fold_of (Count true) c.dtype c.slots
+  unfolding fold_picked
+  counted_rows = refl
+
+  pub counted_valid : valid_count c.slots ≡ fold_of (Count false) c.dtype c.slots
+  unfolding fold_picked
+  counted_valid = refl
 
 -- one slot more of a sum
 pub sum_next : {N : Type 0} (number : N → ℤ) (t : ColumnType) (slot : Option N) (before after : N) (ss : List Slot) →

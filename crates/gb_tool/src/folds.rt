@@ -1,26 +1,56 @@
 //! The columns of an answer: each aggregate over the rows of each group.
 
-ghost use Rattle.std.specs.Prelude.{◌≡◌, ℕ, ◌+◌, ◌<◌, ◌≤◌, ◌^◌, List, map, length, All, None, Some, IfOk, IfErr, MatchOption, ◌+ℤ◌};
+ghost use Rattle.std.specs.Prelude.{◌≡◌, ℕ, ◌+◌, ◌<◌, ◌≤◌, ◌^◌, List, map, length, All, None, Some, IfOk, IfErr, OnOk, MatchOption, ◌+ℤ◌, not, true};
 ghost use Rattle.gb_defs.specs.Slot.{Num, is_nil, slot_at};
-ghost use Rattle.gb_defs.specs.ColumnType.{uint32};
+ghost use Rattle.gb_defs.specs.ColumnType.{text, uint32};
 ghost use Rattle.gb_defs.specs.Column.{content, plain_column};
-ghost use Rattle.gb_defs.specs.Fold.{wrap, total, valid, picked, fold_of, number_slot};
+ghost use Rattle.gb_defs.specs.Fold.{wrap, total, valid, picked, number_slot, sum_type, fold_of, Sum, Count};
 ghost use Rattle.gb_defs.specs.Answer.{aggregated, answer_name};
-ghost use Rattle.gb_defs.specs.Fault.{unfit_operation};
+ghost use Rattle.gb_defs.specs.Fault.{has_sum, unfit_operation, unfit_or, InvalidOperation, OfSum};
+ghost use Rattle.gb_cols.specs.PolarsError.{Explains};
 ghost use Rattle.gb_cols.specs.PlSmallStr.{text_of, IsNoMemory};
 ghost use Rattle.gb_cols.specs.Array.{number_slot_of};
 ghost use Rattle.gb_groups.specs.Groups.{lists_of};
-ghost use Rattle.gb_tool.specs.Folds.{AreRows};
+ghost use Rattle.gb_series.specs.Series.{value_of};
+ghost use Rattle.gb_tool.specs.Folds.{AreRows, sum_of, valid_count};
 ghost use Rattle.gb_tool.specs.Request.{agg_of, method_of};
 
 use crate::request::{Agg, GroupByMethod};
-use gb_cols::chunked::{ChunkedArray, UInt32Chunked};
-use gb_cols::error::PolarsResult;
+use gb_cols::chunked::{ChunkedArray, StringChunked, UInt32Chunked};
+use gb_cols::error::{Operation, PolarsError, PolarsResult};
 use gb_cols::numeric::PolarsNumericType;
 use gb_cols::primitive::PrimitiveArray;
 use gb_cols::small_str::PlSmallStr;
 use gb_groups::groups_idx::IdxVec;
+use gb_series::series::Series;
 use std::alloc::Global;
+
+/// The aggregate over each of the lists of rows, unless the type of the column has none.
+pub fn aggregate(
+    alloc: Global,
+    column: &Series,
+    agg: &Agg,
+    lists: &[IdxVec],
+) -> PolarsResult<Series>
+    requires rows { All (AreRows (length (value_of column.now).slots)) (lists_of lists.now) }
+    requires few { length lists.now < 2 ^ 32 }
+    requires short { length (value_of column.now).slots < 2 ^ 32 }
+    ensures fits { OnOk result (unfit_operation (method_of agg.now.method) (value_of column.now).dtype ≡ None) }
+    ensures ok { IfOk result (λ s. content (value_of s) ≡ aggregated (agg_of agg.now) (Some (value_of column.now)) (lists_of lists.now)) }
+    ensures err { IfErr result (λ e. Explains e (unfit_or (text_of agg.now.column) (unfit_operation (method_of agg.now.method) (value_of column.now).dtype) None)) }
+{
+    let name = name_of_answer(alloc, agg)?;
+    match agg.method {
+        GroupByMethod::Sum => column_sums(name, column, &agg.column, lists),
+        GroupByMethod::Count { include_nulls } => Ok(Series::UInt32(column_counts(
+            alloc,
+            name,
+            column,
+            include_nulls,
+            lists,
+        )?)),
+    }
+}
 
 // The name of an aggregate's column.
 fn name_of_answer(alloc: Global, agg: &Agg) -> PolarsResult<PlSmallStr>
@@ -36,19 +66,51 @@ fn name_of_answer(alloc: Global, agg: &Agg) -> PolarsResult<PlSmallStr>
     PlSmallStr::from_str(alloc, name.as_str())
 }
 
+// The sum of a column over each list, unless it is a column of texts.
+fn column_sums(
+    name: PlSmallStr,
+    column: &Series,
+    asked: &PlSmallStr,
+    lists: &[IdxVec],
+) -> PolarsResult<Series>
+    requires rows { All (AreRows (length (value_of column.now).slots)) (lists_of lists.now) }
+    requires few { length lists.now < 2 ^ 32 }
+    ensures fits { OnOk result (has_sum (value_of column.now).dtype ≡ true) }
+    ensures ok { IfOk result (λ s. value_of s ≡ plain_column (text_of name) (sum_type (value_of column.now).dtype) (map (sum_of (value_of column.now)) (lists_of lists.now))) }
+    ensures err { IfErr result (λ e. Explains e (unfit_or (text_of asked.now) (unfit_operation Sum (value_of column.now).dtype) None)) }
+{
+    match column {
+        Series::UInt32(numbers) => Ok(Series::UInt32(sums(name, numbers, lists)?)),
+        Series::Int64(numbers) => Ok(Series::Int64(sums(name, numbers, lists)?)),
+        Series::String(texts) => Err(text_sum(texts, asked)),
+    }
+}
+
+// The refusal of a sum of texts.
+fn text_sum(texts: &StringChunked, asked: &PlSmallStr) -> PolarsError
+    ensures typed { texts.now.dtype ≡ text }
+    ensures cause { Explains result (Some (InvalidOperation OfSum (text_of asked.now))) }
+{
+    match PlSmallStr::from_str(texts.allocator(), asked.as_str()) {
+        Ok(name) => PolarsError::InvalidOperation(Operation::Sum, name),
+        Err(e) => e,
+    }
+}
+
 // The sum over each list.
 fn sums<T: PolarsNumericType>(
-    alloc: Global,
     name: PlSmallStr,
     column: &ChunkedArray<PrimitiveArray<T>>,
     lists: &[IdxVec],
 ) -> PolarsResult<ChunkedArray<PrimitiveArray<T>>>
     requires rows { All (AreRows (length column.now.slots)) (lists_of lists.now) }
     requires few { length lists.now < 2 ^ 32 }
+    ensures typed { column.now.dtype ≡ T.dtype }
     ensures ok { IfOk result (λ c. c ≡ plain_column (text_of name) T.dtype (map (λ rows. Num (wrap T.dtype (total (valid (picked column.now.slots rows))))) (lists_of lists.now))) }
     ensures err { IfErr result IsNoMemory }
 {
-    let mut sums: ChunkedArray<PrimitiveArray<T>> = ChunkedArray::new(alloc, name);
+    let mut sums: ChunkedArray<PrimitiveArray<T>> =
+        ChunkedArray::new(column.allocator(), name);
     sums.reserve(lists.len())?;
     for rows in lists {
         sums.push(Some(sum_at(column, rows)))?;
@@ -81,6 +143,27 @@ fn with_slot<T: PolarsNumericType>(sum: T::Native, slot: Option<T::Native>) -> T
     }
 }
 
+// The number of rows, or of valid slots, over each list.
+fn column_counts(
+    alloc: Global,
+    name: PlSmallStr,
+    column: &Series,
+    include_nulls: bool,
+    lists: &[IdxVec],
+) -> PolarsResult<UInt32Chunked>
+    requires rows { All (AreRows (length (value_of column.now).slots)) (lists_of lists.now) }
+    requires few { length lists.now < 2 ^ 32 }
+    requires short { length (value_of column.now).slots < 2 ^ 32 }
+    ensures ok { IfOk result (λ c. c ≡ plain_column (text_of name) uint32 (map (fold_of (Count include_nulls) (value_of column.now).dtype (value_of column.now).slots) (lists_of lists.now))) }
+    ensures err { IfErr result IsNoMemory }
+{
+    if include_nulls {
+        row_counts(alloc, name, lists)
+    } else {
+        valid_counts(alloc, name, column, lists)
+    }
+}
+
 // The length of each list.
 fn row_counts(alloc: Global, name: PlSmallStr, lists: &[IdxVec]) -> PolarsResult<UInt32Chunked>
     requires short { All (λ (rows : List ℕ). length rows < 2 ^ 32) (lists_of lists.now) }
@@ -94,4 +177,57 @@ fn row_counts(alloc: Global, name: PlSmallStr, lists: &[IdxVec]) -> PolarsResult
         counts.push(Some(rows.len() as u32))?;
     }
     Ok(counts)
+}
+
+// The number of valid slots over each list, null for an empty list.
+fn valid_counts(
+    alloc: Global,
+    name: PlSmallStr,
+    column: &Series,
+    lists: &[IdxVec],
+) -> PolarsResult<UInt32Chunked>
+    requires rows { All (AreRows (length (value_of column.now).slots)) (lists_of lists.now) }
+    requires few { length lists.now < 2 ^ 32 }
+    requires short { length (value_of column.now).slots < 2 ^ 32 }
+    ensures ok { IfOk result (λ c. c ≡ plain_column (text_of name) uint32 (map (valid_count (value_of column.now).slots) (lists_of lists.now))) }
+    ensures err { IfErr result IsNoMemory }
+{
+    let mut counts = UInt32Chunked::new(alloc, name);
+    counts.reserve(lists.len())?;
+    for rows in lists {
+        let count = if rows.is_empty() {
+            None
+        } else {
+            Some(valid_at(column, rows))
+        };
+        counts.push(count)?;
+    }
+    Ok(counts)
+}
+
+// The number of valid slots at these rows.
+fn valid_at(column: &Series, rows: &[u32]) -> u32
+    requires rows { AreRows (length (value_of column.now).slots) rows.now }
+    requires short { length (value_of column.now).slots < 2 ^ 32 }
+    ensures { result ≡ length (valid (picked (value_of column.now).slots rows.now)) }
+{
+    let mut count = 0;
+    for row in rows {
+        if is_valid(column, *row as usize) {
+            count += 1;
+        }
+    }
+    count
+}
+
+// Whether the slot at a row is no null.
+fn is_valid(column: &Series, row: usize) -> bool
+    requires { row < length (value_of column.now).slots }
+    ensures { is_nil (slot_at (value_of column.now).slots row) ≡ not result }
+{
+    match column {
+        Series::UInt32(numbers) => numbers.get(row).is_some(),
+        Series::Int64(numbers) => numbers.get(row).is_some(),
+        Series::String(texts) => texts.get(row).is_some(),
+    }
 }
