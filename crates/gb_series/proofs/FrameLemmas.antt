@@ -1,5 +1,5 @@
 -- The columns of a frame, one after the other.
-use Rattle.std.proofs.Common.{◌≡◌, ◌≢◌, ℕ, zero, suc, ◌+◌, ◌<◌, Bool, true, false, cond, List, [], ◌∷◌, length, map, get_or, drop, Some, refl, sym, ◌∙◌, ap, arith, eq-eqb, eqb-true}
+use Rattle.std.proofs.Common.{◌≡◌, ◌≢◌, ℕ, zero, suc, ◌+◌, ◌<◌, Bool, true, false, cond, List, [], ◌∷◌, length, map, get_or, drop, Option, Some, refl, sym, ◌∙◌, ap, arith, eq-eqb, eqb-true}
 use Rattle.std.specs.Prelude.{slice_get, ◌==◌}
 use Rattle.std.specs.Str.{bytes_eq}
 use Rattle.std.proofs.lemmas.Bool.{ne_eqb}
@@ -31,6 +31,19 @@ find_here c cs name e = ap (λ b. cond b (Some c) (find_column cs name)) e
 
 pub find_later : (c : ColumnValue) (cs : Frame) (name : List ℕ) → bytes_eq c.name name ≡ false → find_column (c ∷ cs) name ≡ find_column cs name
 find_later c cs name e = ap (λ b. cond b (Some c) (find_column cs name)) e
+
+found_step : (n : ℕ) (test : Bool) (x c : ColumnValue) (rest : Option ColumnValue) → length x.slots ≡ n → (rest ≡ Some c → length c.slots ≡ n) → cond test (Some x) rest ≡ Some c → length c.slots ≡ n
+found_step n true x c rest e later found =
+    let same : x ≡ c = cc in
+    ap (λ (x : ColumnValue). length x.slots) (sym same) ∙ e
+found_step n false x c rest e later found = later found
+
+-- a column that is found has the length of all
+pub found_long : (n : ℕ) (frame : Frame) (name : List ℕ) (c : ColumnValue) → all_have_length n frame ≡ true → find_column frame name ≡ Some c → length c.slots ≡ n
+found_long n [] name c long found = cc
+found_long n (x ∷ xs) name c long found =
+    let parts = long_first (length x.slots == n) (all_have_length n xs) long in
+    found_step n (bytes_eq x.name name) x c (find_column xs name) (eqb-true (length x.slots) n parts.0) (found_long n xs name c parts.1) found
 
 -- ---- columns as they are stored
 

@@ -1,1 +1,2 @@
 pub mod FoldingLemmas
+pub mod GroupingLemmas

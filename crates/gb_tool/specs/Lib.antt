@@ -1,3 +1,4 @@
 pub mod Folds
+pub mod Grouping
 pub mod Request
 pub mod Status

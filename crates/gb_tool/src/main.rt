@@ -3,6 +3,7 @@
 #![tactic(auto)]
 
 mod folds;
+mod grouping;
 mod request;
 mod status;
 

@@ -1,0 +1,7 @@
+//! The paths from a column to the groups of its rows. Each gives the classes of equal slots in the order
+//! of their first rows.
+#![tactic(auto)]
+
+pub mod into_groups;
+mod row_lists;
+mod row_numbers;

@@ -1,0 +1,68 @@
+//! The rows of each group, from each row's number. Each list is made with its exact room.
+
+ghost use Rattle.std.specs.Prelude.{◌≡◌, ℕ, ◌<◌, ◌^◌, length, IfOk, slice_index};
+ghost use Rattle.std.specs.List.{All, AllZip};
+ghost use Rattle.gb_groups.specs.Groups.{lists_of};
+ghost use Rattle.gb_paths.specs.Numbers.{lists_by, counts_by, IsRoomFor};
+
+use gb_groups::groups_idx::IdxVec;
+use smallvec::SmallVec;
+use std::alloc::{AllocError, Global};
+
+/// The rows of each group, ascending.
+pub fn row_lists(alloc: Global, numbers: &[u32], groups: usize) -> Result<Vec<IdxVec>, AllocError>
+    requires few { length numbers.now < 2 ^ 32 }
+    requires known { All (λ number. number < groups) numbers.now }
+    ensures { IfOk result (λ lists. lists_of lists.items ≡ lists_by numbers.now groups) }
+{
+    let counts = row_counts(alloc, numbers, groups)?;
+    let mut lists = empty_lists(alloc, counts.as_slice())?;
+    fill_lists(lists.as_mut_slice(), numbers);
+    Ok(lists)
+}
+
+// How many rows each group has.
+fn row_counts(alloc: Global, numbers: &[u32], groups: usize) -> Result<Vec<u32>, AllocError>
+    requires few { length numbers.now < 2 ^ 32 }
+    requires known { All (λ number. number < groups) numbers.now }
+    ensures { IfOk result (λ counts. counts.items ≡ counts_by numbers.now groups) }
+{
+    let mut counts = vec![in alloc; 0u32; groups]?;
+    count_rows(counts.as_mut_slice(), numbers);
+    Ok(counts)
+}
+
+// Adds one to a group's count for each of its rows.
+fn count_rows(counts: &mut [u32], numbers: &[u32])
+    requires few { length numbers.now < 2 ^ 32 }
+    requires known { All (λ number. number < length counts.old) numbers.now }
+    requires zero { (k : ℕ) → slice_index counts.old k ≡ 0 }
+    ensures { counts.new ≡ counts_by numbers.now (length counts.old) }
+{
+    for number in numbers {
+        counts[*number as usize] += 1;
+    }
+}
+
+// A list for each count, empty.
+fn empty_lists(alloc: Global, counts: &[u32]) -> Result<Vec<IdxVec>, AllocError>
+    ensures { IfOk result (λ lists. AllZip IsRoomFor counts.now lists.items) }
+{
+    let mut lists = Vec::with_capacity(alloc, counts.len())?;
+    for count in counts {
+        lists.push_reserved(SmallVec::with_capacity(alloc, *count as usize)?);
+    }
+    Ok(lists)
+}
+
+// Puts each row into the list of its group.
+fn fill_lists(lists: &mut [IdxVec], numbers: &[u32])
+    requires few { length numbers.now < 2 ^ 32 }
+    requires known { All (λ number. number < length lists.old) numbers.now }
+    requires room { AllZip IsRoomFor (counts_by numbers.now (length lists.old)) lists.old }
+    ensures { lists_of lists.new ≡ lists_by numbers.now (length lists.old) }
+{
+    for (row, number) in numbers.iter().enumerate() {
+        lists[*number as usize].push_reserved(row as u32);
+    }
+}

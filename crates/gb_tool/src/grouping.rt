@@ -1,0 +1,135 @@
+//! From a frame to the frame of its groups: one row for each class of rows whose keys agree.
+
+ghost use Rattle.std.specs.Prelude.{◌≡◌, ℕ, ◌<◌, ◌^◌, List, [], ◌∷◌, map, length, All, None, true, false, is_none, IfOk, IfErr, OnOk};
+ghost use Rattle.std.specs.Thread.{IsSync};
+ghost use Rattle.gb_defs.specs.Column.{ColumnValue, IsFrame, content, find_column, frame_height};
+ghost use Rattle.gb_defs.specs.Fault.{rows_fault, missing_fault, unfit_at, unfit_fault, unfit_or};
+ghost use Rattle.gb_defs.specs.Answer.{aggregated};
+ghost use Rattle.gb_defs.specs.Outcome.{Report, is_text, find_columns, outcome_by_keys};
+ghost use Rattle.gb_defs.specs.Text.{frame_text};
+ghost use Rattle.gb_cols.specs.PolarsError.{Explains};
+ghost use Rattle.gb_cols.specs.PlSmallStr.{text_of};
+ghost use Rattle.gb_groups.specs.Groups.{lists_of};
+ghost use Rattle.gb_series.specs.Series.{value_of};
+ghost use Rattle.gb_tool.specs.Folds.{AreRows};
+ghost use Rattle.gb_tool.specs.Grouping.{IsRefusal, key_part};
+ghost use Rattle.gb_tool.specs.Request.{agg_of, aggs_of, method_of};
+
+use crate::folds::aggregate;
+use crate::request::Agg;
+use gb_cols::chunked::StringChunked;
+use gb_cols::error::{PolarsError, PolarsResult};
+use gb_cols::pool::Pool;
+use gb_cols::small_str::PlSmallStr;
+use gb_groups::groups_idx::IdxVec;
+use gb_paths::into_groups::IntoGroupsType;
+use gb_series::frame::DataFrame;
+use gb_series::series::Series;
+use std::alloc::Global;
+use std::thread::Threads;
+
+/// The key at the first row of each group, and the aggregates over its rows. Today the key is a column
+/// of texts.
+pub fn group_frame<R: Threads + Sync>(
+    rt: &R,
+    alloc: Global,
+    frame: &DataFrame,
+    by: &PlSmallStr,
+    aggs: &[Agg],
+    pool: &Pool,
+) -> PolarsResult<DataFrame>
+    requires row_type { IsSync R.row }
+    ensures ok { IfOk result (λ answer. (null_word : List ℕ) → outcome_by_keys frame.now (aggs_of aggs.now) null_word (find_columns frame.now (text_of by.now ∷ [])) ≡ Report (frame_text (map content answer) null_word)) }
+    ensures err { IfErr result (λ e. (null_word : List ℕ) → IsRefusal e (outcome_by_keys frame.now (aggs_of aggs.now) null_word (find_columns frame.now (text_of by.now ∷ [])))) }
+{
+    let key = frame.column(by.as_str())?;
+    let texts = text_key(key)?;
+    check_height(frame)?;
+    check_columns(frame, aggs)?;
+    let groups = texts.group_tuples(rt, false, true, pool)?;
+    let groups = groups.unwrap_idx();
+    let columns = answer_columns(alloc, frame, key, aggs, groups.first(), groups.all())?;
+    DataFrame::new(columns)
+}
+
+// The texts of the key.
+fn text_key(key: &Series) -> PolarsResult<&StringChunked>
+    ensures ok { IfOk result (λ texts. (texts.now ≡ value_of key.now) × (is_text (value_of key.now).dtype ≡ true)) }
+    ensures err { IfErr result (λ _. is_text (value_of key.now).dtype ≡ false) }
+{
+    match key.try_str() {
+        Some(texts) => Ok(texts),
+        None => Err(PolarsError::SchemaMismatch(key.name().try_clone()?)),
+    }
+}
+
+// That rows have numbers.
+fn check_height(frame: &DataFrame) -> PolarsResult<()>
+    ensures ok { OnOk result (frame_height frame.now < 2 ^ 32) }
+    ensures frame { IsFrame frame.now }
+    ensures err { IfErr result (λ e. Explains e (rows_fault (frame_height frame.now))) }
+{
+    let height = frame.height();
+    if height > u32::MAX as usize {
+        return Err(PolarsError::TooManyRows(height as u64));
+    }
+    Ok(())
+}
+
+// That the frame has the columns.
+fn check_columns(frame: &DataFrame, aggs: &[Agg]) -> PolarsResult<()>
+    ensures ok { OnOk result (missing_fault frame.now (aggs_of aggs.now) ≡ None) }
+    ensures err { IfErr result (λ e. Explains e (missing_fault frame.now (aggs_of aggs.now))) }
+{
+    for agg in aggs {
+        frame.column(agg.column.as_str())?;
+    }
+    Ok(())
+}
+
+// The columns of the answer.
+fn answer_columns(
+    alloc: Global,
+    frame: &DataFrame,
+    key: &Series,
+    aggs: &[Agg],
+    firsts: &[u32],
+    lists: &[IdxVec],
+) -> PolarsResult<Vec<Series>>
+    requires frame { IsFrame frame.now }
+    requires short { frame_height frame.now < 2 ^ 32 }
+    requires found { missing_fault frame.now (aggs_of aggs.now) ≡ None }
+    requires firsts { All (λ row. row < length (value_of key.now).slots) firsts.now }
+    requires rows { All (AreRows (frame_height frame.now)) (lists_of lists.now) }
+    requires few { length lists.now < 2 ^ 32 }
+    ensures ok { IfOk result (λ columns. map (λ s. content (value_of s)) columns.items ≡ key_part (value_of key.now) firsts.now ∷ map (λ agg. aggregated agg (find_column frame.now agg.0) (lists_of lists.now)) (aggs_of aggs.now)) }
+    ensures fits { OnOk result (unfit_fault frame.now (aggs_of aggs.now) ≡ None) }
+    ensures err { IfErr result (λ e. Explains e (unfit_fault frame.now (aggs_of aggs.now))) }
+{
+    let mut columns = Vec::with_capacity(alloc, 1)?;
+    columns.push(key.take(firsts)?)?;
+    for agg in aggs {
+        columns.push(found_aggregate(alloc, frame, agg, lists)?)?;
+    }
+    Ok(columns)
+}
+
+// The aggregate of a column that the frame has.
+fn found_aggregate(
+    alloc: Global,
+    frame: &DataFrame,
+    agg: &Agg,
+    lists: &[IdxVec],
+) -> PolarsResult<Series>
+    requires frame { IsFrame frame.now }
+    requires short { frame_height frame.now < 2 ^ 32 }
+    requires found { is_none (find_column frame.now (text_of agg.now.column)) ≡ false }
+    requires rows { All (AreRows (frame_height frame.now)) (lists_of lists.now) }
+    requires few { length lists.now < 2 ^ 32 }
+    ensures ok { IfOk result (λ s. content (value_of s) ≡ aggregated (agg_of agg.now) (find_column frame.now (text_of agg.now.column)) (lists_of lists.now)) }
+    ensures fits { OnOk result (unfit_at (method_of agg.now.method) (find_column frame.now (text_of agg.now.column)) ≡ None) }
+    ensures err { IfErr result (λ e. Explains e (unfit_or (text_of agg.now.column) (unfit_at (method_of agg.now.method) (find_column frame.now (text_of agg.now.column))) None)) }
+{
+    let column = frame.column(agg.column.as_str())?;
+    aggregate(alloc, column, agg, lists)
+}
