@@ -1,2 +1,14 @@
+pub mod CellLemmas
+pub mod DeviceLemmas
 pub mod FoldingLemmas
 pub mod GroupingLemmas
+pub mod HeadLemmas
+pub mod HeaderLemmas
+pub mod PushLemmas
+pub mod ReadingLemmas
+pub mod RecordLemmas
+pub mod RunLemmas
+pub mod TableLemmas
+pub mod TakingLemmas
+pub mod TextLemmas
+pub mod WordsLemmas

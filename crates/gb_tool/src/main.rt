@@ -4,7 +4,56 @@
 
 mod folds;
 mod grouping;
+mod input;
+mod output;
+mod report;
 mod request;
+mod run;
 mod status;
+mod table;
+#[cfg(test)]
+mod tests;
+mod text;
+mod words;
 
-fn main() {}
+use crate::run::{Limits, run};
+use crate::status::Status;
+use gb_cols::memory::FreeGate;
+use gb_cols::standard::{StderrSink, StdinSource, StdoutSink};
+use std::env;
+use std::io::ErrorKind;
+use std::process::ExitCode;
+
+const LIMITS: Limits = Limits {
+    input_bytes: 268435456,
+};
+
+// The words after the program's name. Words that are no text spell no request.
+fn words_of(rt: &HostRuntime) -> Result<Vec<String>, Status> {
+    match env::args(rt) {
+        Ok(words) => Ok(words.skip(1).collect(rt.alloc())?),
+        Err(e) if e.kind() == ErrorKind::OutOfMemory => Err(Status::NoMemory),
+        Err(_) => Err(Status::Usage),
+    }
+}
+
+fn main(rt: HostRuntime) -> ExitCode {
+    let words = match words_of(&rt) {
+        Ok(words) => words,
+        Err(status) => return ExitCode::from(status.code()),
+    };
+    let mut source = StdinSource::new(rt.stdin());
+    let mut sink = StdoutSink::new(rt.stdout());
+    let mut notes = StderrSink::new(rt.stderr());
+    let status = run(
+        &rt,
+        rt.alloc(),
+        words.as_slice(),
+        LIMITS,
+        &mut source,
+        &mut sink,
+        &mut notes,
+        &FreeGate,
+    );
+    ExitCode::from(status.code())
+}

@@ -1,6 +1,7 @@
 ghost use Rattle.std.specs.Prelude.{◌≡◌};
 
 use gb_cols::error::PolarsError;
+use std::alloc::AllocError;
 use thiserror::Error;
 
 /// Where a table's text is at fault. Today the row and the column are not told apart: both are 0.
@@ -48,5 +49,15 @@ impl Status {
             Status::TooLong => 7,
             Status::NoMemory => 9,
         }
+    }
+}
+
+impl From<AllocError> for Status {
+    ghost use Rattle.gb_tool.specs.declared.status.Status.TheVariants.{NoMemory};
+
+    ghost from_gives = { λ _ status. status ≡ NoMemory };
+
+    fn from(_: AllocError) -> Status {
+        Status::NoMemory
     }
 }

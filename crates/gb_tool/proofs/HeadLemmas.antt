@@ -1,0 +1,146 @@
+-- The words of types in a header, and the colon before them.
+use Rattle.std.proofs.Common.{◌≡◌, ◌≢◌, ◌==◌, ℕ, ◌+◌, ◌-◌, ◌<◌, ◌≤◌, zero, suc, Bool, true, false, not, ◌||◌, inl, inr, List, [], ◌∷◌, length, get_or, take, drop, refl, sym, ◌∙◌, ap, arith, Option, Some, None, codes}
+use Rattle.std.specs.Fmt.{digits}
+use Rattle.std.specs.Prelude.{if◌then◌else◌}
+use Rattle.std.proofs.lemmas.List.{length-drop, get_or-drop}
+use Rattle.std.specs.Option.{MatchOption}
+use Rattle.std.specs.List.{list_any, list_all, after_last, before_last, suffix_len}
+use Rattle.std.specs.Str.{bytes_eq, NoCharPasses}
+use Rattle.std.specs.Str.Pattern.{HasCharAt}
+use Rattle.std.specs.Cmp.Lexicographic.{bytes_decides}
+use Rattle.std.proofs.lemmas.Bool.{cases_Bool, ne_eqb, eq-eqb, false_from_ne_true, and_parts}
+use Rattle.std.proofs.lemmas.List.Sums.{suffix_len_is}
+use Rattle.std.proofs.lemmas.Str.Pattern.{NoCharPasses-char}
+use Rattle.gb_defs.specs.ColumnType.{FlatType, ColumnType, Flat, int64, text}
+use Rattle.gb_defs.specs.Cell.{is_read_flat}
+use Rattle.gb_defs.specs.TypeWord.{type_words, word_among, type_of_word}
+use Rattle.gb_defs.specs.Table.{is_colon, Head, head_of, head_by_word}
+use Rattle.gb_tool.specs.Head.{readable_head, unread_words}
+
+-- ---- words
+
+-- a type that is read has one of the two words
+abbrev fits_word : List ℕ × FlatType → Bool
+fits_word w = not (is_read_flat w.1) || bytes_eq w.0 (codes "i64") || bytes_eq w.0 (codes "str")
+
+read_word : (w : List ℕ × FlatType) → fits_word w ≡ true → w.0 ≢ codes "i64" → w.0 ≢ codes "str" → is_read_flat w.1 ≡ false
+read_word w fits n m =
+    let i = false_from_ne_true (bytes_eq w.0 (codes "i64")) (λ e. n ((bytes_decides w.0 (codes "i64")).0 e)) in
+    let s = false_from_ne_true (bytes_eq w.0 (codes "str")) (λ e. m ((bytes_decides w.0 (codes "str")).0 e)) in
+    elim (cases_Bool (is_read_flat w.1)) [
+      | inl h ↦ let bad = rw (h, i, s) at fits in cc
+      | inr h ↦ h
+    ]
+
+-- what the words say of a word that is neither of the two
+abbrev Tells : List (List ℕ × FlatType) → List ℕ → Option FlatType → Type 0
+Tells ws word o = MatchOption o (list_any (λ known. bytes_eq known word) (unread_words ws) ≡ false)
+    (λ t. (is_read_flat t ≡ false) × (list_any (λ known. bytes_eq known word) (unread_words ws) ≡ true))
+
+word_turned : (a b : List ℕ) → bytes_eq a b ≡ false → bytes_eq b a ≡ false
+word_turned a b e = false_from_ne_true (bytes_eq b a) (λ h. let bad : true ≡ false = sym ((bytes_decides a b).1 (sym ((bytes_decides b a).0 h))) ∙ e in cc)
+
+any_other : (b : Bool) (x : List ℕ) (xs : List (List ℕ)) (word : List ℕ) → bytes_eq x word ≡ false
+    → list_any (λ known. bytes_eq known word) (if b then xs else x ∷ xs) ≡ list_any (λ known. bytes_eq known word) xs
+any_other true x xs word h = refl
+any_other false x xs word h = rw h
+
+other_word : (w : List ℕ × FlatType) (ws : List (List ℕ × FlatType)) (word : List ℕ) (o : Option FlatType) → bytes_eq w.0 word ≡ false → Tells ws word o → Tells (w ∷ ws) word o
+other_word w ws word None h t = any_other (is_read_flat w.1) w.0 (unread_words ws) word h ∙ t
+other_word w ws word (Some f) h t = (t.0, any_other (is_read_flat w.1) w.0 (unread_words ws) word h ∙ t.1)
+
+words_tell : (ws : List (List ℕ × FlatType)) (word : List ℕ) → list_all fits_word ws ≡ true → word ≢ codes "i64" → word ≢ codes "str" → Tells ws word (word_among ws word)
+words_tell [] word fits n m = refl
+words_tell (w ∷ ws) word fits n m =
+    let f = and_parts (fits_word w) (list_all fits_word ws) fits in
+    let rest = words_tell ws word f.1 n m in
+    elim (cases_Bool (bytes_eq word w.0)) [
+      | inl e ↦
+          let same = (bytes_decides word w.0).0 e in
+          let unread = read_word w f.0 (λ h. n (same ∙ h)) (λ h. m (same ∙ h)) in
+          let here = (bytes_decides w.0 word).1 (sym same) in
+          rw (e, unread, here) (refl, refl)
+      | inr e ↦ rw e (other_word w ws word (word_among ws word) (word_turned word w.0 e) rest)
+    ]
+
+pub type_word_tells : (word : List ℕ) → word ≢ codes "i64" → word ≢ codes "str" → Tells type_words word (type_of_word word)
+unfolding type_words digits
+type_word_tells word n m = words_tell type_words word refl n m
+
+-- ---- the colon
+
+no_colon_in : (bs : List ℕ) → ((i : ℕ) → i < length bs → get_or bs i 0 ≢ 58) → list_any is_colon bs ≡ false
+no_colon_in [] h = refl
+no_colon_in (b ∷ bs) h = rw (ne_eqb b 58 (h 0 (omega arith)), no_colon_in bs (λ i lt. h (suc i) (omega (arith, lt))))
+
+colon_in : (bs : List ℕ) (i : ℕ) → i < length bs → get_or bs i 0 ≡ 58 → list_any is_colon bs ≡ true
+colon_in [] i lt e = absurd (omega (arith, lt))
+colon_in (b ∷ bs) zero lt e = rw (eq-eqb b 58 e)
+colon_in (b ∷ bs) (suc i) lt e = elim (cases_Bool (is_colon b)) [
+  | inl h ↦ rw h
+  | inr h ↦ rw (h, colon_in bs i (omega (arith, lt)) e)
+]
+
+-- a field without a colon is a name
+pub plain_head : (field : List ℕ) → NoCharPasses (λ d. d == 58) field → head_of field ≡ record { name = field; dtype = text }
+unfolding head_of
+plain_head field h = rw (no_colon_in field (λ i lt. NoCharPasses-char 58 field i h (omega arith) lt))
+
+-- the head of a field by the type of the word after its last colon
+abbrev pub head_with : List ℕ → List ℕ → Option FlatType → Head
+head_with field name None = record { name = field; dtype = text }
+head_with field name (Some t) = record { name = name; dtype = Flat t }
+
+cut_head : (field name : List ℕ) (o : Option FlatType) → before_last is_colon field ≡ name → head_by_word field o ≡ head_with field name o
+cut_head field name None e = refl
+cut_head field name (Some t) e = rw e
+
+last_colon : (field : List ℕ) (i : ℕ) → i < length field → get_or field i 0 ≡ 58 → NoCharPasses (λ d. d == 58) (drop (i + 1) field) → suffix_len (λ b. not (is_colon b)) field ≡ length field - (i + 1)
+last_colon field i lt e h =
+    suffix_len_is (λ b. not (is_colon b)) field (i + 1) 0 (omega (arith, lt))
+    (λ k le less. let past : k - (i + 1) < length (drop (i + 1) field) = omega (arith, le, less, lt, length-drop (i + 1) field) in
+    let other = NoCharPasses-char 58 (drop (i + 1) field) (k - (i + 1)) h (omega arith) past in
+    let moved : get_or (drop (i + 1) field) (k - (i + 1)) 0 ≡ get_or field k 0 = get_or-drop (i + 1) field (k - (i + 1)) 0 ∙ ap (λ n. get_or field n 0) (omega (arith, le)) in
+    rw (ne_eqb (get_or field k 0) 58 (λ same. other (moved ∙ same))))
+    (λ pos. let at : i + 1 - 1 ≡ i = omega arith in rw (at, e))
+
+-- a field is cut at its last colon
+pub colon_head : (field name word : List ℕ) (i j : ℕ) → NoCharPasses (λ d. d == 58) (drop j field) → HasCharAt 58 field i j → name ≡ take i field → word ≡ drop j field → j ≤ length field
+    → head_of field ≡ head_with field name (type_of_word word)
+unfolding head_of
+colon_head field name word i j h at front back le =
+    let next : j ≡ i + 1 = at.ends in
+    let lt : i < length field = omega (arith, next, le) in
+    let byte = at.byte (omega arith) in
+    let tail = last_colon field i lt byte (rw next at h) in
+    let cut : length field - (length field - (i + 1)) ≡ i + 1 = omega (arith, lt) in
+    let before : length field - (length field - (i + 1)) - 1 ≡ i = omega (arith, lt) in
+    let first : before_last is_colon field ≡ name = rw (tail, before) (sym front) in
+    let last : after_last is_colon field ≡ word = rw (tail, cut, ← next) (sym back) in
+    rw (colon_in field i lt byte, last) (cut_head field name (type_of_word word) first)
+
+-- ---- what a field reads as, by its word
+
+abbrev named : List ℕ → ColumnType → Head
+named name t = record { name = name; dtype = t }
+
+module _ (field name word : List ℕ) (cut : head_of field ≡ head_with field name (type_of_word word)) where
+  pub int64_head : word ≡ codes "i64" → readable_head (head_of field) ≡ Some (named name int64)
+  unfolding type_words
+  int64_head e = rw (cut, e)
+
+  pub text_head : word ≡ codes "str" → readable_head (head_of field) ≡ Some (named name text)
+  unfolding type_words
+  text_head e = rw (cut, e)
+
+  module _ (n : word ≢ codes "i64") (m : word ≢ codes "str") where
+    by_word : (o : Option FlatType) → Tells type_words word o → (list_any (λ known. bytes_eq known word) (unread_words type_words) ≡ true → readable_head (head_with field name o) ≡ None)
+        × (list_any (λ known. bytes_eq known word) (unread_words type_words) ≡ false → readable_head (head_with field name o) ≡ Some (named field text))
+    by_word None t = (λ e. let bad : true ≡ false = sym e ∙ t in cc, λ e. refl)
+    by_word (Some f) t = (λ e. rw t.0, λ e. let bad : true ≡ false = sym t.1 ∙ e in cc)
+
+    pub unread_head : list_any (λ known. bytes_eq known word) (unread_words type_words) ≡ true → readable_head (head_of field) ≡ None
+    unread_head e = rw cut ((by_word (type_of_word word) (type_word_tells word n m)).0 e)
+
+    pub whole_head : list_any (λ known. bytes_eq known word) (unread_words type_words) ≡ false → readable_head (head_of field) ≡ Some (named field text)
+    whole_head e = rw cut ((by_word (type_of_word word) (type_word_tells word n m)).1 e)

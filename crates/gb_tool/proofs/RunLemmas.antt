@@ -1,0 +1,22 @@
+-- What the cause of a status says of an input past the limit.
+use Rattle.std.proofs.Common.{◌≡◌, ◌<◌, ◌≤◌, ℕ, List, [], ◌∷◌, length, Some, inl, inr, refl, arith}
+use Rattle.gb_defs.specs.Request as asked
+use Rattle.gb_defs.specs.Outcome.{Outcome, BadTable, BadGroup, Report}
+use Rattle.gb_tool.specs.declared.status.Status.{Status}
+use Rattle.gb_tool.specs.declared.status.Status.TheVariants.{Done, Usage, Table, Group, ReadFault, WriteFault, TooLong, NoMemory}
+use Rattle.gb_tool.specs.Run.{Comes, HasCause, IsOneOf, Run}
+
+module _ (run : Run) (q : asked.Request) (bytes : List ℕ) (e : run.request ≡ Some q) (t : run.input ≡ Some bytes) (long : run.limit < length bytes) where
+  -- an outcome comes of an input within the limit
+  short : {B : Type 0} (o : Outcome) → Comes run.request run.input run.limit o → B
+  short o c = let few : length bytes ≤ run.limit = (c q bytes e t).0 in absurd (omega arith)
+
+  pub long_input : (s : Status) → HasCause run s → IsOneOf (TooLong ∷ ReadFault ∷ NoMemory ∷ []) s
+  long_input Done h = short (Report h.0) h.1.comes
+  long_input Usage h = cc (h.0)
+  long_input (Table fault) h = short BadTable h.1
+  long_input (Group x) h = short BadGroup h.1
+  long_input ReadFault h = inr (inl refl)
+  long_input WriteFault h = short (Report h.0) h.1.comes
+  long_input TooLong h = inl refl
+  long_input NoMemory h = inr (inr (inl refl))

@@ -1,0 +1,93 @@
+ghost use Rattle.std.specs.Prelude.{◌≡◌, IfOk, IfErr, OnErr, All, map};
+ghost use Rattle.std.specs.Bool.{OnTrue, OnFalse};
+ghost use Rattle.gb_defs.specs.ColumnType.{int64, text};
+ghost use Rattle.gb_cols.specs.PlSmallStr.{IsNoMemory};
+ghost use Rattle.gb_series.specs.Series.{value_of};
+ghost use Rattle.csv.specs.Records.{fields_of};
+ghost use Rattle.gb_tool.specs.Table.{HasRoom, IsTyped, columns_with, column_with, if_taken};
+
+use crate::table::cell::number_of;
+use csv::ByteRecord;
+use gb_cols::chunked::{Int64Chunked, StringChunked};
+use gb_cols::error::PolarsResult;
+use gb_series::series::Series;
+
+// Puts a cell at the end of a column of numbers, and says whether it reads as one.
+fn push_number(column: &mut Int64Chunked, cell: &[u8], null_word: &str) -> PolarsResult<bool>
+    requires dtype { column.old.dtype ≡ int64 }
+    requires room { HasRoom column.old }
+    ensures ok { IfOk result (λ took. if_taken took column.new ≡ column_with null_word.now column.old cell.now) }
+    ensures refused { IfOk result (λ took. OnFalse took (column.new ≡ column.old)) }
+    ensures dtype { column.new.dtype ≡ column.old.dtype }
+    ensures err { IfErr result IsNoMemory }
+    ensures unchanged { OnErr result (column.new ≡ column.old) }
+{
+    if cell == null_word.as_bytes() {
+        column.push_null()?;
+        return Ok(true);
+    }
+    let Some(number) = number_of(cell) else {
+        return Ok(false);
+    };
+    column.push(Some(number))?;
+    Ok(true)
+}
+
+// Puts a cell at the end of a column of texts, and says whether it reads as one.
+fn push_text(column: &mut StringChunked, cell: &[u8], null_word: &str) -> PolarsResult<bool>
+    requires dtype { column.old.dtype ≡ text }
+    requires room { HasRoom column.old }
+    ensures ok { IfOk result (λ took. if_taken took column.new ≡ column_with null_word.now column.old cell.now) }
+    ensures refused { IfOk result (λ took. OnFalse took (column.new ≡ column.old)) }
+    ensures dtype { column.new.dtype ≡ column.old.dtype }
+    ensures err { IfErr result IsNoMemory }
+    ensures unchanged { OnErr result (column.new ≡ column.old) }
+{
+    if cell == null_word.as_bytes() {
+        column.push_null()?;
+        return Ok(true);
+    }
+    let Ok(text) = str::from_utf8(cell) else {
+        return Ok(false);
+    };
+    column.push(Some(text))?;
+    Ok(true)
+}
+
+// Puts a cell at the end of a column, and says whether it reads.
+fn push_cell(column: &mut Series, cell: &[u8], null_word: &str) -> PolarsResult<bool>
+    requires typed { IsTyped column.old }
+    requires room { HasRoom (value_of column.old) }
+    ensures ok { IfOk result (λ took. if_taken took (value_of column.new) ≡ column_with null_word.now (value_of column.old) cell.now) }
+    ensures typed { IsTyped column.new }
+    ensures err { IfErr result IsNoMemory }
+{
+    match column {
+        Series::UInt32(_) => unreachable!(),
+        Series::Int64(column) => push_number(column, cell, null_word),
+        Series::String(column) => push_text(column, cell, null_word),
+    }
+}
+
+/// Puts the cells of a record at the ends of the columns, and says whether there are as many and each
+/// reads. Where not, some columns may have a slot more.
+pub fn push_record(columns: &mut [Series], row: &ByteRecord, null_word: &str) -> PolarsResult<bool>
+    requires typed { All IsTyped columns.old }
+    requires room { All (λ column. HasRoom (value_of column)) columns.old }
+    ensures ok { IfOk result (λ took. if_taken took (map value_of columns.new) ≡ columns_with null_word.now (map value_of columns.old) (fields_of row.now)) }
+    ensures typed { IfOk result (λ took. OnTrue took (All IsTyped columns.new)) }
+    ensures err { IfErr result IsNoMemory }
+{
+    if row.len() != columns.len() {
+        return Ok(false);
+    }
+    for (place, column) in columns.iter_mut().enumerate() {
+        let Some(cell) = row.get(place) else {
+            return Ok(false);
+        };
+        if !push_cell(column, cell, null_word)? {
+            return Ok(false);
+        }
+    }
+    Ok(true)
+}

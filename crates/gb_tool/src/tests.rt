@@ -1,0 +1,149 @@
+//! `run` over devices in memory, once for each way in which it may end.
+
+ghost use Rattle.std.specs.Prelude.{◌≤◌};
+ghost use Rattle.std.specs.Thread.{IsSync};
+
+use crate::run::{Limits, run};
+use gb_cols::device::{Failed, Source};
+use gb_cols::memory::{FreeGate, MemSink, SoundSource};
+use std::alloc::Global;
+use std::test::Fail;
+use std::thread::Threads;
+
+const DAYS: &str =
+    "date,temp:i64\n2020-08-21,20\n2020-08-21,10\n2020-08-22,7\n2020-08-23,9\n2020-08-22,1\n";
+
+const SUMS: &str = "group --by date --agg sum:temp --agg count:temp";
+
+/// A source that fails at each call.
+#[derive(Drop)]
+struct FailingSource {
+    faults: u64,
+}
+
+impl Source for FailingSource {
+    ghost use Rattle.std.specs.Prelude.{None};
+
+    ghost left = { λ _. None };
+
+    ghost faults = { λ s. s.faults };
+
+    fn read(&mut self, _room: &mut [u8]) -> Result<usize, Failed> {
+        self.faults = self.faults.saturating_add(1);
+        Err(Failed)
+    }
+}
+
+fn source_of(alloc: Global, input: &str) -> Result<SoundSource, Fail> {
+    Ok(SoundSource::new(Vec::from_slice(alloc, input.as_bytes())?))
+}
+
+// The exit status of a run of these words.
+fn code_of<R: Threads + Sync, S: Source>(
+    rt: &R,
+    alloc: Global,
+    words: &str,
+    limit: u64,
+    source: &mut S,
+    sink: &mut MemSink,
+) -> Result<u8, Fail>
+    requires row_type { IsSync R.row }
+    requires limit { limit ≤ 4294967295 }
+{
+    let mut spelled = Vec::new(alloc);
+    for word in words.split(' ') {
+        spelled.push(String::from_str(alloc, word)?)?;
+    }
+    let mut notes = MemSink::new(alloc, 0, 1, Vec::new(alloc))?;
+    let limits = Limits { input_bytes: limit };
+    let status = run(
+        rt,
+        alloc,
+        spelled.as_slice(),
+        limits,
+        source,
+        sink,
+        &mut notes,
+        &FreeGate,
+    );
+    Ok(status.code())
+}
+
+/// Words, an input, the exit status and what is written.
+struct Row {
+    words: &'static str,
+    input: &'static str,
+    code: u8,
+    wrote: &'static str,
+}
+
+const ROWS: [Row; 6] = [
+    Row {
+        words: SUMS,
+        input: DAYS,
+        code: 0,
+        wrote: "date:str,temp_sum:i64,temp_count:u32\n2020-08-21,30,2\n2020-08-22,8,2\n2020-08-23,9,1\n",
+    },
+    Row {
+        words: "group --by k --agg sum:v",
+        input: "k,v:i64\n,5\n1,6\n,7\n",
+        code: 0,
+        wrote: "k:str,v_sum:i64\n,12\n1,6\n",
+    },
+    Row {
+        words: "group --by k --agg sum:v",
+        input: "k,v:i64\n",
+        code: 0,
+        wrote: "k:str,v_sum:i64\n",
+    },
+    Row {
+        words: "group --by k",
+        input: "k:i64\n12x\n",
+        code: 3,
+        wrote: "",
+    },
+    Row {
+        words: "group --by day",
+        input: DAYS,
+        code: 4,
+        wrote: "",
+    },
+    Row {
+        words: "group",
+        input: DAYS,
+        code: 2,
+        wrote: "",
+    },
+];
+
+#[test]
+fn rows_end_as_they_say(rt: HostRuntime) -> Result<(), Fail> {
+    for row in &ROWS {
+        let mut source = source_of(rt.alloc(), row.input)?;
+        let mut sink = MemSink::new(rt.alloc(), 4096, 4096, Vec::new(rt.alloc()))?;
+        let code = code_of(&rt, rt.alloc(), row.words, 4096, &mut source, &mut sink)?;
+        assert_eq!(rt; code, row.code);
+        assert_eq!(rt; sink.bytes(), row.wrote.as_bytes());
+    }
+    Ok(())
+}
+
+#[test]
+fn devices_fail(rt: HostRuntime) -> Result<(), Fail> {
+    let mut source = source_of(rt.alloc(), DAYS)?;
+    let failing = Vec::from_slice(rt.alloc(), &[2])?;
+    let mut sink = MemSink::new(rt.alloc(), 4096, 7, failing)?;
+    let code = code_of(&rt, rt.alloc(), SUMS, 4096, &mut source, &mut sink)?;
+    assert_eq!(rt; code, 6);
+    assert_eq!(rt; sink.bytes(), b"date:st".as_slice());
+
+    let mut source = source_of(rt.alloc(), DAYS)?;
+    let code = code_of(&rt, rt.alloc(), SUMS, 10, &mut source, &mut sink)?;
+    assert_eq!(rt; code, 7);
+
+    let mut source = FailingSource { faults: 0 };
+    let code = code_of(&rt, rt.alloc(), SUMS, 4096, &mut source, &mut sink)?;
+    assert_eq!(rt; code, 5);
+    assert_eq!(rt; sink.bytes(), b"date:st".as_slice());
+    Ok(())
+}

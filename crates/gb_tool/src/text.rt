@@ -1,0 +1,161 @@
+//! The text of a frame: a row of header fields, and a row of cells for each row.
+
+ghost use Rattle.std.specs.Prelude.{◌≡◌, ◌+◌, ◌<◌, ◌++◌, ◌∷◌, ◌^◌, ℕ, List, [], All, IfErr, IfOk, OnOk, length, map};
+ghost use Rattle.std.specs.List.{flat_map};
+ghost use Rattle.csv.specs.Writing.{default_writer, row_text};
+ghost use Rattle.gb_defs.specs.Slot.{slot_at};
+ghost use Rattle.gb_defs.specs.Classes.{rows_below};
+ghost use Rattle.gb_defs.specs.Column.{content};
+ghost use Rattle.gb_defs.specs.Cell.{cell_text};
+ghost use Rattle.gb_defs.specs.Text.{frame_text, header_field, header_line, row_line};
+ghost use Rattle.gb_defs.specs.TypeWord.{type_word};
+ghost use Rattle.gb_cols.specs.DataType.{type_of};
+ghost use Rattle.gb_cols.specs.PlSmallStr.{IsNoMemory};
+ghost use Rattle.gb_series.specs.Series.{value_of};
+ghost use Rattle.gb_tool.specs.Text.{HasBegun, TakesField, TakesRows, contents_of};
+
+use csv::{Writer, WriterBuilder};
+use gb_cols::data_type::DataType;
+use gb_cols::error::{PolarsError, PolarsResult};
+use gb_series::frame::DataFrame;
+use gb_series::series::Series;
+use itoa::Buffer;
+use std::alloc::Global;
+
+// The word of a type.
+fn word_of(dtype: DataType) -> &'static str
+    ensures { result.now ≡ type_word (type_of dtype) }
+{
+    match dtype {
+        DataType::UInt32 => "u32",
+        DataType::Int64 => "i64",
+        DataType::String => "str",
+    }
+}
+
+// One field more of the record.
+fn put_field(writer: &mut Writer<Vec<u8>>, field: &[u8]) -> PolarsResult<()>
+    ensures ok { OnOk result (TakesField writer.old writer.new field.now) }
+    ensures err { IfErr result IsNoMemory }
+{
+    match writer.write_field(field) {
+        Ok(()) => Ok(()),
+        Err(_) => Err(PolarsError::NoMemory),
+    }
+}
+
+// The end of the record.
+fn end_row(writer: &mut Writer<Vec<u8>>) -> PolarsResult<()>
+    ensures ok { OnOk result ((before : List ℕ) (fields : List (List ℕ)) → HasBegun writer.old before fields → HasBegun writer.new (before ++ row_text default_writer fields) []) }
+    ensures err { IfErr result IsNoMemory }
+{
+    match writer.end_record() {
+        Ok(()) => Ok(()),
+        Err(_) => Err(PolarsError::NoMemory),
+    }
+}
+
+// The header field of a column, made in `field`.
+fn put_head(writer: &mut Writer<Vec<u8>>, column: &Series, field: &mut Vec<u8>) -> PolarsResult<()>
+    ensures ok { OnOk result (TakesField writer.old writer.new (header_field (content (value_of column.now)))) }
+    ensures err { IfErr result IsNoMemory }
+{
+    let word = word_of(column.dtype()?);
+    field.clear();
+    field.extend_from_slice(column.name().as_str().as_bytes())?;
+    field.push(b':')?;
+    field.extend_from_slice(word.as_bytes())?;
+    put_field(writer, field.as_slice())
+}
+
+// The cell of a column at a row.
+fn put_cell(
+    writer: &mut Writer<Vec<u8>>,
+    column: &Series,
+    row: usize,
+    null_word: &str,
+) -> PolarsResult<()>
+    requires { row < length (value_of column.now).slots }
+    ensures ok { OnOk result (TakesField writer.old writer.new (cell_text null_word.now (slot_at (value_of column.now).slots row))) }
+    ensures err { IfErr result IsNoMemory }
+{
+    let mut digits = Buffer::new();
+    match column {
+        Series::UInt32(column) => match column.get(row) {
+            Some(number) => put_field(writer, digits.format(number).as_bytes()),
+            None => put_field(writer, null_word.as_bytes()),
+        },
+        Series::Int64(column) => match column.get(row) {
+            Some(number) => put_field(writer, digits.format(number).as_bytes()),
+            None => put_field(writer, null_word.as_bytes()),
+        },
+        Series::String(column) => match column.get(row) {
+            Some(text) => put_field(writer, text.as_bytes()),
+            None => put_field(writer, null_word.as_bytes()),
+        },
+    }
+}
+
+// The row of header fields.
+fn put_header(alloc: Global, writer: &mut Writer<Vec<u8>>, columns: &[Series]) -> PolarsResult<()>
+    ensures ok { OnOk result (TakesRows writer.old writer.new (header_line (contents_of columns.now))) }
+    ensures err { IfErr result IsNoMemory }
+{
+    let mut field = Vec::new(alloc);
+    for column in columns {
+        put_head(writer, column, &mut field)?;
+    }
+    end_row(writer)
+}
+
+// A row of cells.
+fn put_row(
+    writer: &mut Writer<Vec<u8>>,
+    columns: &[Series],
+    row: usize,
+    null_word: &str,
+) -> PolarsResult<()>
+    requires { All (λ column. row < length (value_of column).slots) columns.now }
+    ensures ok { OnOk result (TakesRows writer.old writer.new (row_line null_word.now (contents_of columns.now) row)) }
+    ensures err { IfErr result IsNoMemory }
+{
+    for column in columns {
+        put_cell(writer, column, row, null_word)?;
+    }
+    end_row(writer)
+}
+
+// All rows of cells.
+fn put_rows(
+    writer: &mut Writer<Vec<u8>>,
+    columns: &[Series],
+    height: usize,
+    null_word: &str,
+) -> PolarsResult<()>
+    requires { All (λ column. length (value_of column).slots ≡ height) columns.now }
+    ensures ok { OnOk result (TakesRows writer.old writer.new (flat_map (row_line null_word.now (contents_of columns.now)) (rows_below height))) }
+    ensures err { IfErr result IsNoMemory }
+{
+    for row in 0..height {
+        put_row(writer, columns, row, null_word)?;
+    }
+    Ok(())
+}
+
+/// The text of the frame, with this word for null.
+pub fn text_of(alloc: Global, frame: &DataFrame, null_word: &str) -> PolarsResult<Vec<u8>>
+    ensures ok { IfOk result (λ text. text.items ≡ frame_text (map content frame.now) null_word.now) }
+    ensures err { IfErr result IsNoMemory }
+{
+    let columns = frame.get_columns();
+    if columns.is_empty() {
+        return Ok(Vec::new(alloc));
+    }
+    let mut writer = WriterBuilder::new().from_writer(Vec::new(alloc));
+    put_header(alloc, &mut writer, columns)?;
+    put_rows(&mut writer, columns, frame.height(), null_word)?;
+    match writer.into_inner() {
+        Ok(text) => Ok(text),
+        Err(_) => Err(PolarsError::NoMemory),
+    }
+}
