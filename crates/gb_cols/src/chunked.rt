@@ -6,7 +6,7 @@ mod texts;
 
 use crate::array::Array;
 use crate::data_type::DataType;
-use crate::error::PolarsResult;
+use crate::error::{PolarsError, PolarsResult};
 use crate::numeric::{Int64Type, PolarsNumericType, UInt32Type};
 use crate::primitive::PrimitiveArray;
 use crate::small_str::PlSmallStr;
@@ -14,6 +14,7 @@ use crate::sorted::IsSorted;
 use crate::utf8::Utf8Array;
 use std::alloc::Global;
 use std::marker::Model;
+use std::mem;
 
 /// A named column of any storage: its chunks in order, the last one apart, so that there is one always.
 #[derive(Drop)]
@@ -51,7 +52,7 @@ impl<A: Array> Model for ChunkedArray<A> {
 impl<A: Array> ChunkedArray<A> {
     ghost use Rattle.gb_cols.specs.PlSmallStr.{text_of, IsNoMemory};
     ghost use Rattle.gb_cols.specs.DataType.{type_of};
-    ghost use Rattle.gb_cols.specs.Column.{pushed};
+    ghost use Rattle.gb_cols.specs.Column.{appended, pushed};
     ghost use Rattle.gb_cols.specs.Sorted.{flag_of};
     ghost use Rattle.std.specs.List.{count_by};
     ghost use Rattle.gb_defs.specs.Slot.{is_nil};
@@ -163,6 +164,30 @@ impl<A: Array> ChunkedArray<A> {
         ensures unchanged { OnErr result (self.new ≡ self.old) }
     {
         self.last.push_null()?;
+        self.sorted = IsSorted::Not;
+        Ok(())
+    }
+
+    /// The other's chunks come last.
+    pub fn append(&mut self, other: Self) -> PolarsResult<()>
+        requires { length self.old.slots + length other.slots < 2 ^ 63 }
+        ensures ok { OnOk result (self.new ≡ appended self.old other) }
+        ensures err { IfErr result IsNoMemory }
+        ensures unchanged { OnErr result (self.new ≡ self.old) }
+    {
+        let ChunkedArray {
+            name: _,
+            earlier: mut later,
+            last,
+            sorted: _,
+        } = other;
+        let Some(chunks) = later.len().checked_add(1) else {
+            return Err(PolarsError::NoMemory);
+        };
+        self.earlier.reserve(chunks)?;
+        self.earlier
+            .push_reserved(mem::replace(&mut self.last, last));
+        self.earlier.append(&mut later)?;
         self.sorted = IsSorted::Not;
         Ok(())
     }

@@ -15,5 +15,7 @@ pub mod primitive;
 pub mod small_str;
 pub mod sorted;
 pub mod standard;
+#[cfg(test)]
+mod tests;
 pub mod utf8;
 mod validity;
