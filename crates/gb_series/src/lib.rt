@@ -3,3 +3,5 @@
 
 pub mod frame;
 pub mod series;
+#[cfg(test)]
+mod tests;

@@ -1,0 +1,78 @@
+ghost use Rattle.std.specs.Prelude.{◌<◌, length};
+
+use crate::frame::DataFrame;
+use crate::series::{IntoSeries, Series};
+use gb_cols::chunked::{Int64Chunked, StringChunked, UInt32Chunked};
+use gb_cols::data_type::DataType;
+use gb_cols::error::{PolarsError, PolarsResult};
+use gb_cols::small_str::PlSmallStr;
+use std::alloc::Global;
+use std::test::Fail;
+
+fn numbers(alloc: Global, name: &str, values: &[i64]) -> PolarsResult<Series>
+    requires { length values.now < 9 }
+{
+    let name = PlSmallStr::from_str(alloc, name)?;
+    Ok(Int64Chunked::from_slice(alloc, name, values)?.into_series())
+}
+
+fn two_columns(alloc: Global, name: &str, values: &[i64]) -> PolarsResult<Vec<Series>>
+    requires { length values.now < 9 }
+{
+    let mut columns = Vec::new(alloc);
+    columns.push(numbers(alloc, "a", &[1, 2])?)?;
+    columns.push(numbers(alloc, name, values)?)?;
+    Ok(columns)
+}
+
+#[test]
+fn a_frame_of_two(rt: HostRuntime) -> Result<(), Fail> {
+    let frame = DataFrame::new(two_columns(rt.alloc(), "b", &[3, 4])?)?;
+    assert_eq!(rt;
+        (frame.height(), frame.width(), frame.is_empty()),
+        (2, 2, false)
+    );
+    assert_eq!(rt; frame.position("b"), Some(1));
+    assert_eq!(rt; frame.column("b")?.name().as_str(), "b");
+    assert!(rt; matches!(frame.column("c"), Err(PolarsError::ColumnNotFound(_))));
+    let taken = frame.take(&[1, 0, 1])?;
+    assert_eq!(rt; (taken.height(), taken.get_columns().len()), (3, 2));
+    Ok(())
+}
+
+#[test]
+fn frames_refused(rt: HostRuntime) -> Result<(), Fail> {
+    let alloc = rt.alloc();
+    assert!(rt;
+        matches!(
+            DataFrame::new(two_columns(alloc, "a", &[3])?),
+            Err(PolarsError::Duplicate(_))
+        )
+    );
+    assert!(rt;
+        matches!(
+            DataFrame::new(two_columns(alloc, "b", &[3])?),
+            Err(PolarsError::ShapeMismatch)
+        )
+    );
+    Ok(())
+}
+
+#[test]
+fn columns_of_each_type(rt: HostRuntime) -> Result<(), Fail> {
+    let alloc = rt.alloc();
+    let mut column = StringChunked::new(alloc, PlSmallStr::from_str(alloc, "t")?).into_series();
+    assert_eq!(rt;
+        (column.dtype()?, column.is_empty()),
+        (DataType::String, true)
+    );
+    column.rename(PlSmallStr::from_str(alloc, "s")?);
+    assert_eq!(rt; column.name().as_str(), "s");
+    let name = PlSmallStr::from_str(alloc, "u")?;
+    let column = UInt32Chunked::from_slice_options(alloc, name, &[Some(1), None])?.into_series();
+    assert_eq!(rt;
+        (column.dtype()?, column.len(), column.null_count()),
+        (DataType::UInt32, 2, 1)
+    );
+    Ok(())
+}
