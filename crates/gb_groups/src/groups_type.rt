@@ -141,6 +141,7 @@ mod tests {
             assert!(rt; !group.is_empty());
             seen = 1;
         }
+        assert_eq!(rt; groups.get(1).first(), 1);
         let lists = groups.unwrap_idx();
         assert_eq!(rt; lists.first(), [0, 1].as_slice());
         assert_eq!(rt; lists.all().len(), 2);

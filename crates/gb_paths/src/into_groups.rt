@@ -39,6 +39,7 @@ pub trait IntoGroupsType {
 impl IntoGroupsType for StringChunked {
     ghost column = { λ c. c };
 
+    // By one table.
     fn group_tuples<R: Threads + Sync>(
         &self,
         _rt: &R,
@@ -46,20 +47,11 @@ impl IntoGroupsType for StringChunked {
         sorted: bool,
         _pool: &Pool,
     ) -> PolarsResult<GroupsType> {
-        Ok(group_texts(self, sorted)?)
+        let alloc = self.allocator();
+        let rows = number_texts(alloc, self)?;
+        let lists = row_lists(alloc, rows.numbers.as_slice(), rows.first.len())?;
+        Ok(GroupsType::from(GroupsIdx::new(rows.first, lists, sorted)))
     }
-}
-
-// By one table.
-fn group_texts(keys: &StringChunked, sorted: bool) -> PolarsResult<GroupsType>
-    requires { length keys.now.slots < 2 ^ 32 }
-    ensures ok { IfOk result (λ g. groups_of g ≡ record { pairs = groups (same_slot keys.now.slots) (rows_below (length keys.now.slots)); form = Idx; flagged = sorted }) }
-    ensures err { IfErr result IsNoMemory }
-{
-    let alloc = keys.allocator();
-    let rows = number_texts(alloc, keys)?;
-    let lists = row_lists(alloc, rows.numbers.as_slice(), rows.first.len())?;
-    Ok(GroupsType::from(GroupsIdx::new(rows.first, lists, sorted)))
 }
 
 #[cfg(test)]
@@ -82,17 +74,19 @@ mod tests {
     }
 
     // Groups the texts, and compares the first rows and the row lists.
-    fn expect_groups(
-        rt: &impl Abort,
+    fn expect_groups<R: Abort + Threads + Sync>(
+        rt: &R,
         alloc: Global,
         texts: &[Option<&str>],
         first: &[u32],
         lists: &[&[u32]],
     ) -> PolarsResult<()>
-        requires { length texts.now < 2 ^ 32 }
+        requires row_type { IsSync R.row }
+        requires few { length texts.now < 2 ^ 32 }
     {
         let column = column(alloc, texts)?;
-        let groups = group_texts(&column, true)?;
+        let pool = Pool::new(1, 1, 1, 1, 0);
+        let groups = column.group_tuples(rt, false, true, &pool)?;
         assert!(rt; groups.is_sorted_flag());
         let groups = groups.unwrap_idx();
         assert_eq!(rt; groups.first(), first);

@@ -7,6 +7,7 @@ pub mod HeaderLemmas
 pub mod PushLemmas
 pub mod ReadingLemmas
 pub mod RecordLemmas
+pub mod ReportLemmas
 pub mod RunLemmas
 pub mod TableLemmas
 pub mod TakingLemmas

@@ -1,5 +1,5 @@
 -- What contracts see of a request.
-use Rattle.std.specs.Prelude.{ℕ, List, map}
+use Rattle.std.specs.Prelude.{◌≡◌, ℕ, List, length, map}
 use Rattle.gb_defs.specs.Fold as fold
 use Rattle.gb_defs.specs.Request as request
 use Rattle.gb_cols.specs.PlSmallStr.{text_of}
@@ -25,3 +25,7 @@ options_of o = record { workers = o.workers; partitions = o.partitions; piece = 
 
 abbrev pub request_of : Request → request.Request
 request_of (Group by aggs options) = request.Group (map text_of by.items) (aggs_of aggs.items) (options_of options)
+
+-- one key is asked
+abbrev pub HasOneKey : request.Request → Type 0
+HasOneKey (request.Group by aggs options) = length by ≡ 1

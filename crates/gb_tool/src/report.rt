@@ -1,29 +1,73 @@
 //! The pure middle: from the bytes of a table to the text of the answer.
 
-ghost use Rattle.std.specs.Prelude.{◌≡◌, ◌≤◌, IfErr, IfOk, length};
+ghost use Rattle.std.specs.Prelude.{◌≡◌, ◌≤◌, ◌∷◌, [], IfErr, IfOk, length};
 ghost use Rattle.std.specs.Thread.{IsSync};
 ghost use Rattle.gb_defs.specs.Outcome.{Report, outcome};
-ghost use Rattle.gb_tool.specs.Request.{request_of};
+ghost use Rattle.gb_defs.specs.Request.{Group};
+ghost use Rattle.gb_cols.specs.PlSmallStr.{text_of};
+ghost use Rattle.gb_tool.specs.Request.{HasOneKey, aggs_of, options_of, request_of};
 ghost use Rattle.gb_tool.specs.Run.{IsRefusedReport};
 
-use crate::request::Request;
+use crate::grouping::group_frame;
+use crate::request::{Agg, Request, ToolOptions};
 use crate::status::Status;
+use crate::table::table_of;
+use crate::text;
 use gb_cols::device::Gate;
+use gb_cols::pool::Pool;
+use gb_cols::small_str::PlSmallStr;
 use std::alloc::Global;
 use std::thread::Threads;
 
-/// The text of the answer to the request over the table's bytes.
+// The pool that the options ask, each within its bounds.
+fn pool_of(options: &ToolOptions) -> Pool {
+    Pool::new(
+        options.workers.clamp(1, 64),
+        options.partitions.clamp(1, 1024),
+        options.threshold.max(1),
+        options.piece.max(1),
+        options.seed,
+    )
+}
+
+/// The text of the answer to the request over the table's bytes. Today a request has one key, and the
+/// gate is asked for nothing.
 pub fn report<R: Threads + Sync, G: Gate + Sync>(
     rt: &R,
     alloc: Global,
     request: &Request,
     bytes: &[u8],
-    gate: &G,
+    _gate: &G,
 ) -> Result<Vec<u8>, Status>
     requires row_type { IsSync R.row }
     requires few { length bytes.now ≤ 4294967295 }
+    requires one_key { HasOneKey (request_of request.now) }
     ensures ok { IfOk result (λ text. outcome (request_of request.now) bytes.now ≡ Report text.items) }
     ensures err { IfErr result (λ s. IsRefusedReport s (outcome (request_of request.now) bytes.now)) }
 {
-    Err(Status::NoMemory)
+    match request {
+        Request::Group { by, aggs, options } => {
+            group_report(rt, alloc, &by[0], aggs, options, bytes)
+        }
+    }
+}
+
+// The text of the grouped table.
+fn group_report<R: Threads + Sync>(
+    rt: &R,
+    alloc: Global,
+    by: &PlSmallStr,
+    aggs: &[Agg],
+    options: &ToolOptions,
+    bytes: &[u8],
+) -> Result<Vec<u8>, Status>
+    requires row_type { IsSync R.row }
+    requires few { length bytes.now ≤ 4294967295 }
+    ensures ok { IfOk result (λ text. outcome (Group (text_of by.now ∷ []) (aggs_of aggs.now) (options_of options.now)) bytes.now ≡ Report text.items) }
+    ensures err { IfErr result (λ s. IsRefusedReport s (outcome (Group (text_of by.now ∷ []) (aggs_of aggs.now) (options_of options.now)) bytes.now)) }
+{
+    let null_word = options.null_word.as_str();
+    let frame = table_of(alloc, bytes, null_word)?;
+    let answer = group_frame(rt, alloc, &frame, by, aggs, &pool_of(options))?;
+    Ok(text::text_of(alloc, &answer, null_word)?)
 }

@@ -61,3 +61,30 @@ impl From<AllocError> for Status {
         Status::NoMemory
     }
 }
+
+impl From<TableError> for Status {
+    ghost use Rattle.gb_tool.specs.Status.{of_table};
+
+    ghost from_gives = { λ e status. status ≡ of_table e };
+
+    fn from(e: TableError) -> Status {
+        match e {
+            TableError::Fault(fault) => Status::Table(fault),
+            TableError::NoMemory => Status::NoMemory,
+        }
+    }
+}
+
+/// Which fault it was is not told today.
+impl From<PolarsError> for Status {
+    ghost use Rattle.gb_tool.specs.Status.{of_group};
+
+    ghost from_gives = { λ e status. status ≡ of_group e };
+
+    fn from(e: PolarsError) -> Status {
+        match e {
+            PolarsError::NoMemory => Status::NoMemory,
+            _ => Status::Group(PolarsError::ComputeError),
+        }
+    }
+}

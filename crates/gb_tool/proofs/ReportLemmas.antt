@@ -1,0 +1,70 @@
+-- What a request over a table comes to, by what its steps give.
+use Rattle.std.proofs.Common.{◌≡◌, ℕ, suc, Bool, true, false, List, [], ◌∷◌, ◌∙◌, Option, Some, None, cond, length, map, get_or, refl, ap, arith}
+use Rattle.std.proofs.lemmas.List.{length-map}
+use Rattle.std.specs.Str.{bytes_eq}
+use Rattle.gb_defs.specs.Column.{Frame}
+use Rattle.gb_defs.specs.Fault.{Fault}
+use Rattle.gb_defs.specs.Fold.{Method}
+use Rattle.gb_defs.specs.Outcome.{Outcome, BadTable, BadGroup, Report, find_columns, outcome, outcome_by_frame, outcome_by_keys}
+use Rattle.gb_defs.specs.Request.{Request, Group, ToolOptions, aggs_of, group_by, request}
+use Rattle.gb_defs.specs.Table.{readable_table}
+use Rattle.gb_cols.specs.PolarsError.{cause_of}
+use Rattle.gb_cols.specs.declared.error.PolarsError.{PolarsError}
+use Rattle.gb_tool.specs.declared.status.TableError.{TableError}
+use Rattle.gb_tool.specs.declared.status.TableError.TheVariants.{Fault as Faulty, NoMemory}
+use Rattle.gb_tool.specs.declared.status.TableFault.{TableFault}
+use Rattle.gb_tool.specs.declared.status.TableFault.TheVariants.{BadCell}
+use Rattle.gb_tool.specs.Grouping.{IsRefusal, IsRefusedFor}
+use Rattle.gb_tool.specs.Request.{HasOneKey}
+use Rattle.gb_tool.specs.Run.{IsRefusedReport}
+use Rattle.gb_tool.specs.Status.{of_cause, of_group, of_table}
+use Rattle.gb_tool.specs.Table.{IsRefusedTable}
+
+-- the names of one key
+pub one_name : {A : Type 0} (f : A → List ℕ) (xs : List A) (d : A) → length xs ≡ 1 → map f xs ≡ f (get_or xs 0 d) ∷ []
+one_name f [] d e = cc
+one_name f (x ∷ []) d e = refl
+one_name f (x ∷ y ∷ xs) d e = absurd (omega (arith, e))
+
+-- words ask for one key
+asked_one : (name : List ℕ) (aggs : Option (List (List ℕ × Method))) (q : Request) → group_by name aggs ≡ Some q → HasOneKey q
+asked_one name None q e = cc
+asked_one name (Some aggs) (Group by others options) e =
+    let same : by ≡ name ∷ [] = cc in ap (λ (xs : List (List ℕ)). length xs) same
+
+if_asked : (b : Bool) (name : List ℕ) (aggs : Option (List (List ℕ × Method))) (q : Request) → cond b (group_by name aggs) None ≡ Some q → HasOneKey q
+if_asked true name aggs q e = asked_one name aggs q e
+if_asked false name aggs q e = cc
+
+pub words_one : (words : List (List ℕ)) (q : Request) → request words ≡ Some q → HasOneKey q
+unfolding request
+words_one [] q e = cc
+words_one (command ∷ []) q e = cc
+words_one (command ∷ option ∷ []) q e = cc
+words_one (command ∷ option ∷ name ∷ rest) q e = if_asked _ name (aggs_of rest) q e
+
+module _ (by : List (List ℕ)) (aggs : List (List ℕ × Method)) (options : ToolOptions) (bytes : List ℕ) where
+  bad_place : (fault : TableFault) (read : Option Frame) → IsRefusedTable (Faulty fault) read → (fault ≡ BadCell 0 0) × (outcome_by_frame by aggs options.null_word read ≡ BadTable)
+  bad_place (BadCell row column) read h =
+      let first : BadCell row column ≡ BadCell 0 column = ap (λ r. BadCell r column) h.0 in
+      (first ∙ ap (BadCell 0) h.1, ap (outcome_by_frame by aggs options.null_word) h.2)
+
+  pub bad_table : (e : TableError) → IsRefusedTable e (readable_table bytes options.null_word) → IsRefusedReport (of_table e) (outcome (Group by aggs options) bytes)
+  unfolding outcome
+  bad_table (Faulty fault) h = bad_place fault (readable_table bytes options.null_word) h
+  bad_table NoMemory h = tt
+
+  module _ (frame : Frame) (read : readable_table bytes options.null_word ≡ Some frame) where
+    read_outcome : outcome (Group by aggs options) bytes ≡ outcome_by_keys frame aggs options.null_word (find_columns frame by)
+    unfolding outcome
+    read_outcome = ap (outcome_by_frame by aggs options.null_word) read
+
+    refused_cause : (known : Option Fault) (o : Outcome) → IsRefusedFor known o → IsRefusedReport (of_cause known) o
+    refused_cause None o h = tt
+    refused_cause (Some fault) o h = (refl, h)
+
+    pub bad_group : (e : PolarsError) → IsRefusal e (outcome_by_keys frame aggs options.null_word (find_columns frame by)) → IsRefusedReport (of_group e) (outcome (Group by aggs options) bytes)
+    bad_group e h = rw read_outcome (refused_cause (cause_of e) _ h)
+
+    pub good_report : (text : List ℕ) → outcome_by_keys frame aggs options.null_word (find_columns frame by) ≡ Report text → outcome (Group by aggs options) bytes ≡ Report text
+    good_report text h = read_outcome ∙ h
