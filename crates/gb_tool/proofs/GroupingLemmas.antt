@@ -1,19 +1,18 @@
 -- Columns found in a frame, the causes of a refusal over aggregates, and the columns of an answer.
-use Rattle.std.proofs.Common.{◌≡◌, ℕ, zero, suc, ◌+◌, ◌<◌, ◌≤◌, ◌^◌, Bool, true, false, not, ◌&&◌, ◌||◌, List, [], ◌∷◌, ◌++◌, Option, Some, None, is_none, cond, length, map, take, slice_index_or, get_or, refl, sym, ◌∙◌, ap, subst, arith, All, eq-eqb, nat_lt, ◌==◌}
+use Rattle.std.proofs.Common.{◌≡◌, ℕ, zero, suc, ◌+◌, ◌<◌, ◌≤◌, ◌^◌, Bool, true, false, List, [], ◌∷◌, ◌++◌, Option, Some, None, is_none, cond, length, map, take, slice_index_or, get_or, refl, sym, ◌∙◌, ap, arith, All, eq-eqb, ◌==◌}
 use Rattle.std.specs.Option.{option_or}
 use Rattle.std.proofs.lemmas.List.{take_more, length-map, map_more, map-append}
 use Rattle.std.proofs.lemmas.List.Elements.{All-filter, All-from_recursion, All-from_get_or, All-map}
 use Rattle.std.proofs.lemmas.List.Sums.{length-filter, count_by-le-length}
 use Rattle.std.proofs.lemmas.List.FromFn.{length-range_with_len}
-use Rattle.std.proofs.lemmas.Bool.{lt-ltb, le-ltb}
-use Rattle.std.specs.Str.{bytes_eq}
+use Rattle.std.proofs.lemmas.Bool.{le-ltb}
 use Rattle.gb_defs.specs.Slot.{Slot, slot_at}
 use Rattle.gb_defs.specs.Column.{ColumnValue, Content, Frame, IsFrame, all_have_length, content, find_column, first_repeated, frame_height, names_of}
 use Rattle.gb_defs.specs.Classes.{class, firsts, groups, rows_below, same_slot}
 use Rattle.gb_defs.specs.Fold.{Method, fold_of}
-use Rattle.gb_defs.specs.Answer.{aggregated, answer, answer_name, answer_names, height_of, slots_in, type_in}
-use Rattle.gb_defs.specs.Fault.{Fault, ColumnNotFound, Operation, duplicate_of, fault, is_groups, misaligned_fault, missing_fault, rows_fault, unfit_at, unfit_fault, unfit_or}
-use Rattle.gb_defs.specs.Outcome.{Outcome, BadGroup, Report, find_columns, is_text, outcome_by_keys}
+use Rattle.gb_defs.specs.Answer.{aggregated, answer_name, answer_names, height_of, slots_in, type_in}
+use Rattle.gb_defs.specs.Fault.{Fault, ColumnNotFound, Operation, duplicate_of, fault, is_groups, missing_fault, rows_fault, unfit_at, unfit_fault, unfit_or}
+use Rattle.gb_defs.specs.Outcome.{Report, find_columns, is_text, outcome_by_keys}
 use Rattle.gb_defs.specs.Text.{frame_text}
 use Rattle.gb_defs.proofs.AnswerLemmas.{answer_one, faulty, groups_firsts, groups_lists, reported}
 use Rattle.gb_defs.proofs.ClassesLemmas.{firsts_below, firsts_few, rows_below_all}
@@ -181,11 +180,11 @@ module _ (frame : Frame) (key : ColumnValue) (rows : List ℕ) (lists : List (Li
   pub parts_fault : (aggs : List (List ℕ × Method)) (columns : Frame) → map content columns ≡ parts aggs → frame_fault columns ≡ duplicate_of (first_repeated (answer_names (key ∷ []) aggs))
   parts_fault aggs columns e =
       let names : names_of columns ≡ answer_names (key ∷ []) aggs =
-          names_content columns ∙ ap (map (λ (c : Content). c.name)) e ∙ ap (λ names. key.name ∷ names) (aggregate_names aggs) in
+      names_content columns ∙ ap (map (λ (c : Content). c.name)) e ∙ ap (λ names. key.name ∷ names) (aggregate_names aggs) in
       let aligned : all_have_length (frame_height columns) columns ≡ true =
-          lengths_content (frame_height columns) columns
-          ∙ ap (λ n. all_of_length n (map content columns)) (height_content columns)
-          ∙ ap (λ cs. all_of_length (content_height cs) cs) e ∙ parts_aligned aggs in
+      lengths_content (frame_height columns) columns
+      ∙ ap (λ n. all_of_length n (map content columns)) (height_content columns)
+      ∙ ap (λ cs. all_of_length (content_height cs) cs) e ∙ parts_aligned aggs in
       rw (names, aligned) (or_none_right (duplicate_of (first_repeated (answer_names (key ∷ []) aggs))))
 
 -- ---- what a grouping comes to

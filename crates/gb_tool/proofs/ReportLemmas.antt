@@ -1,11 +1,9 @@
 -- What a request over a table comes to, by what its steps give.
-use Rattle.std.proofs.Common.{◌≡◌, ℕ, suc, Bool, true, false, List, [], ◌∷◌, ◌∙◌, Option, Some, None, cond, length, map, get_or, refl, ap, arith}
-use Rattle.std.proofs.lemmas.List.{length-map}
-use Rattle.std.specs.Str.{bytes_eq}
+use Rattle.std.proofs.Common.{◌≡◌, ℕ, Bool, true, false, List, [], ◌∷◌, ◌∙◌, Option, Some, None, cond, length, map, get_or, refl, ap, arith}
 use Rattle.gb_defs.specs.Column.{Frame}
 use Rattle.gb_defs.specs.Fault.{Fault}
 use Rattle.gb_defs.specs.Fold.{Method}
-use Rattle.gb_defs.specs.Outcome.{Outcome, BadTable, BadGroup, Report, find_columns, outcome, outcome_by_frame, outcome_by_keys}
+use Rattle.gb_defs.specs.Outcome.{Outcome, BadTable, Report, find_columns, outcome, outcome_by_frame, outcome_by_keys}
 use Rattle.gb_defs.specs.Request.{Request, Group, ToolOptions, aggs_of, group_by, request}
 use Rattle.gb_defs.specs.Table.{readable_table}
 use Rattle.gb_cols.specs.PolarsError.{cause_of}

@@ -109,8 +109,7 @@ fn sums<T: PolarsNumericType>(
     ensures ok { IfOk result (λ c. c ≡ plain_column (text_of name) T.dtype (map (λ rows. Num (wrap T.dtype (total (valid (picked column.now.slots rows))))) (lists_of lists.now))) }
     ensures err { IfErr result IsNoMemory }
 {
-    let mut sums: ChunkedArray<PrimitiveArray<T>> =
-        ChunkedArray::new(column.allocator(), name);
+    let mut sums: ChunkedArray<PrimitiveArray<T>> = ChunkedArray::new(column.allocator(), name);
     sums.reserve(lists.len())?;
     for rows in lists {
         sums.push(Some(sum_at(column, rows)))?;
@@ -119,10 +118,7 @@ fn sums<T: PolarsNumericType>(
 }
 
 // The sum at these rows.
-fn sum_at<T: PolarsNumericType>(
-    column: &ChunkedArray<PrimitiveArray<T>>,
-    rows: &[u32],
-) -> T::Native
+fn sum_at<T: PolarsNumericType>(column: &ChunkedArray<PrimitiveArray<T>>, rows: &[u32]) -> T::Native
     requires { All (λ row. row < length column.now.slots) rows.now }
     ensures { T.number result ≡ wrap T.dtype (total (valid (picked column.now.slots rows.now))) }
 {

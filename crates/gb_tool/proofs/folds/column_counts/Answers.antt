@@ -1,4 +1,4 @@
-use Rattle.std.proofs.Common.{◌≡◌, ◌∙◌, ap, IfOk, List, ℕ, map}
+use Rattle.std.proofs.Common.{◌∙◌, ap, List, ℕ, map}
 use Rattle.std.proofs.lemmas.Result.{IfOk-weaker}
 use Rattle.gb_defs.specs.Slot.{Slot}
 use Rattle.gb_defs.specs.ColumnType.{uint32}
@@ -13,10 +13,10 @@ pub returns-then-include_nulls-clause-ok : goal.returns-then-include_nulls-claus
 returns-then-include_nulls-clause-ok c =
     let lists = lists_of c.args.lists.now in
     rw c.if-include_nulls.true (IfOk-weaker c.row_counts.result _ _ (λ counts e.
-        e ∙ ap (λ (f : List ℕ → Slot). plain_column (text_of c.args.name) uint32 (map f lists)) (counted_rows (text_of c.args.name) (value_of c.args.column.now) lists)) c.row_counts.ensures.ok)
+    e ∙ ap (λ (f : List ℕ → Slot). plain_column (text_of c.args.name) uint32 (map f lists)) (counted_rows (text_of c.args.name) (value_of c.args.column.now) lists)) c.row_counts.ensures.ok)
 
 pub returns-else-include_nulls-clause-ok : goal.returns-else-include_nulls-clause-ok
 returns-else-include_nulls-clause-ok c =
     let lists = lists_of c.args.lists.now in
     rw c.if-include_nulls.false (IfOk-weaker c.valid_counts.result _ _ (λ counts e.
-        e ∙ ap (λ (f : List ℕ → Slot). plain_column (text_of c.args.name) uint32 (map f lists)) (counted_valid (text_of c.args.name) (value_of c.args.column.now) lists)) c.valid_counts.ensures.ok)
+    e ∙ ap (λ (f : List ℕ → Slot). plain_column (text_of c.args.name) uint32 (map f lists)) (counted_valid (text_of c.args.name) (value_of c.args.column.now) lists)) c.valid_counts.ensures.ok)

@@ -1,4 +1,4 @@
-use Rattle.std.proofs.Common.{◌≡◌, ◌<◌, ◌^◌, ap, length, arith, ℕ, List, []}
+use Rattle.std.proofs.Common.{ap, length, arith, []}
 use Rattle.gb_defs.specs.Fold.{number_slot}
 use Rattle.gb_tool.proofs.FoldingLemmas.{column_next, list_at, list_in}
 use Rattle.gb_tool.proofs.folds.row_counts.Goals as goal

@@ -1,4 +1,4 @@
-use Rattle.std.proofs.Common.{◌≡◌, ◌∙◌, ap, sym, take, get_or, ◌++◌, ◌∷◌, []}
+use Rattle.std.proofs.Common.{◌∙◌, ap, sym, take, ◌++◌, ◌∷◌, []}
 use Rattle.gb_defs.specs.Slot.{Slot}
 use Rattle.gb_defs.specs.Fold.{wrap, total, valid, picked}
 use Rattle.gb_defs.proofs.FoldLemmas.{picked_more}

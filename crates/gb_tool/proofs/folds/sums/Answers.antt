@@ -1,4 +1,4 @@
-use Rattle.std.proofs.Common.{◌≡◌, ◌<◌, ◌∙◌, ap, subst, length, ℕ, List, []}
+use Rattle.std.proofs.Common.{◌∙◌, ap, subst, length, ℕ, List, []}
 use Rattle.gb_defs.specs.Slot.{Num}
 use Rattle.gb_defs.specs.Fold.{wrap, total, valid, picked}
 use Rattle.gb_tool.specs.Folds.{AreRows}

@@ -1,6 +1,6 @@
-use Rattle.std.proofs.Common.{◌≡◌, ◌+◌, ◌≤◌, ◌∙◌, ap, sym, take, get_or, length, arith, true, false, not, Bool}
+use Rattle.std.proofs.Common.{◌≡◌, ◌∙◌, ap, take, get_or, length, arith, true, false, not}
 use Rattle.std.proofs.lemmas.List.{length_push}
-use Rattle.gb_defs.specs.Slot.{Slot, is_nil, slot_at}
+use Rattle.gb_defs.specs.Slot.{is_nil, slot_at}
 use Rattle.gb_defs.specs.Fold.{valid, picked}
 use Rattle.gb_defs.proofs.FoldLemmas.{picked_more, valid_push_null, valid_push_value}
 use Rattle.gb_series.specs.Series.{value_of}

@@ -1,5 +1,4 @@
-use Rattle.std.proofs.Common.{◌≡◌, ◌∙◌, ap, sym, subst, length, ℕ, List, [], cond, refl, eq-eqb, arith, true, false, ◌==◌, Bool}
-use Rattle.gb_defs.specs.Slot.{Slot}
+use Rattle.std.proofs.Common.{◌≡◌, ◌∙◌, ap, sym, subst, length, ℕ, List, [], true, false, ◌==◌}
 use Rattle.gb_defs.specs.Fold.{number_slot, valid, picked}
 use Rattle.gb_series.specs.Series.{value_of}
 use Rattle.gb_tool.specs.Folds.{AreRows, valid_count}

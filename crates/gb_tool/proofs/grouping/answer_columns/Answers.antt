@@ -1,4 +1,4 @@
-use Rattle.std.proofs.Common.{◌≡◌, ◌∙◌, ap, sym, subst, List, [], ◌∷◌, map, take, length, None, Some, false, is_none, arith}
+use Rattle.std.proofs.Common.{◌≡◌, ◌∙◌, ap, sym, subst, List, [], ◌∷◌, map, None, false, is_none, arith}
 use Rattle.std.proofs.lemmas.List.{take_all, map-append}
 use Rattle.std.proofs.lemmas.Result.{err_from_is_err_and}
 use Rattle.gb_defs.specs.Column.{content, find_column}
@@ -26,7 +26,7 @@ returns-in_err-found_aggregate-clause-err c =
     let frame = c.args.frame.now in
     let aggs = c.args.aggs.now in
     let explained : (e : _) → Explains e (unfit_cause frame c.agg-item.result) → Explains e (unfit_fault frame (aggs_of aggs)) =
-        λ e h. rw (unfit_is frame aggs) (causes_at (unfit_cause frame) aggs c.loop-agg.agg-index c.agg-item.result c.loop-agg-test.true c.loop-agg.invariant.1 (cause_of e) (rw (← c.agg-item.is) h)) in
+    λ e h. rw (unfit_is frame aggs) (causes_at (unfit_cause frame) aggs c.loop-agg.agg-index c.agg-item.result c.loop-agg-test.true c.loop-agg.invariant.1 (cause_of e) (rw (← c.agg-item.is) h)) in
     let p = err_from_is_err_and c.from_residual-in_err-found_aggregate.result c.from_residual-in_err-found_aggregate.ensures.1 in
     rw (p.1, p.2) (explained c.in_err-found_aggregate.field-0.0 c.in_err-found_aggregate.ensures.err)
 
@@ -39,8 +39,8 @@ loop-agg-preserved c =
     let part = λ (s : Series). content (value_of s) in
     let one = c.in_ok-found_aggregate.field-0 in
     let columns = ap (map part) c.in_ok-push-2.ensures.items ∙ map-append part c.loop-agg.columns.items (one ∷ [])
-        ∙ columns_more frame (lists_of c.args.lists.now) aggs i agg c.loop-agg-test.true c.agg-item.is (key_part (value_of c.args.key.now) c.args.firsts.now) (map part c.loop-agg.columns.items) (part one)
-          c.loop-agg.invariant.0 c.in_ok-found_aggregate.ensures.ok in
+    ∙ columns_more frame (lists_of c.args.lists.now) aggs i agg c.loop-agg-test.true c.agg-item.is (key_part (value_of c.args.key.now) c.args.firsts.now) (map part c.loop-agg.columns.items) (part one)
+    c.loop-agg.invariant.0 c.in_ok-found_aggregate.ensures.ok in
     let fits : unfit_cause frame agg ≡ None = rw c.in_ok-found_aggregate.ensures.fits in
     (columns, causes_more (unfit_cause frame) aggs i agg c.loop-agg-test.true c.loop-agg.invariant.1 (rw (← c.agg-item.is) fits))
 

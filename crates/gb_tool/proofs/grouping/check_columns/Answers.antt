@@ -1,9 +1,7 @@
-use Rattle.std.proofs.Common.{rules, ◌≡◌, ◌∙◌, ap, sym, subst, IfErr, take, length, None, Some, arith}
+use Rattle.std.proofs.Common.{◌≡◌, ◌∙◌, ap, sym, None, arith}
 use Rattle.std.proofs.lemmas.List.{take_all}
 use Rattle.std.proofs.lemmas.Result.{err_from_is_err_and}
-use Rattle.gb_cols.specs.PlSmallStr.{text_of}
-use Rattle.gb_cols.specs.PolarsError.{IsCause, Explains, cause_of}
-use Rattle.gb_series.specs.Frame.{missing_column}
+use Rattle.gb_cols.specs.PolarsError.{Explains, cause_of}
 use Rattle.gb_defs.specs.Fault.{missing_fault}
 use Rattle.gb_tool.specs.Request.{aggs_of}
 use Rattle.gb_tool.proofs.GroupingLemmas.{causes_at, causes_more, first_cause, missing_is, missing_cause}
@@ -15,7 +13,7 @@ returns-in_err-column-clause-err c =
     let aggs = c.args.aggs.now in
     let i = c.loop-agg.agg-index in
     let explained : (e : _) → Explains e (missing_cause frame c.agg-item.result) → Explains e (missing_fault frame (aggs_of aggs)) =
-        λ e h. rw (missing_is frame aggs) (causes_at (missing_cause frame) aggs i c.agg-item.result c.loop-agg-test.true c.loop-agg.invariant (cause_of e) (rw (← c.agg-item.is) h)) in
+    λ e h. rw (missing_is frame aggs) (causes_at (missing_cause frame) aggs i c.agg-item.result c.loop-agg-test.true c.loop-agg.invariant (cause_of e) (rw (← c.agg-item.is) h)) in
     let p = err_from_is_err_and c.from_residual.result c.from_residual.ensures.1 in
     rw (p.1, p.2) (explained c.in_err-column.field-0.0 (rw (← c.as_str.ensures) c.in_err-column.ensures.err))
 

@@ -1,4 +1,4 @@
-use Rattle.std.proofs.Common.{◌≡◌, ◌<◌, ◌^◌, subst, sym, length, All, ℕ}
+use Rattle.std.proofs.Common.{◌<◌, subst, sym, All, ℕ}
 use Rattle.gb_defs.specs.Column.{frame_height}
 use Rattle.gb_cols.specs.PlSmallStr.{text_of}
 use Rattle.gb_groups.specs.Groups.{lists_of}

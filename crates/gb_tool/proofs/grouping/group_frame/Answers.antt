@@ -1,17 +1,14 @@
-use Rattle.std.proofs.Common.{◌≡◌, ◌<◌, ◌≤◌, ◌^◌, ◌∙◌, ap, sym, subst, List, ℕ, [], ◌∷◌, map, length, None, Some, Option, All, IfOk, IfErr, arith}
+use Rattle.std.proofs.Common.{◌≡◌, ◌<◌, ◌∙◌, ap, sym, subst, List, ℕ, map, length, arith}
 use Rattle.std.proofs.lemmas.List.{length-map}
 use Rattle.std.proofs.lemmas.Simd.{map-map}
 use Rattle.std.proofs.lemmas.Result.{err_from_is_err_and, IfOk-weaker, IfErr-weaker}
 use Rattle.smallvec.specs.SmallVec.{SmallVec}
-use Rattle.gb_defs.specs.Column.{ColumnValue, content, find_column}
+use Rattle.gb_defs.specs.Column.{ColumnValue, content}
 use Rattle.gb_defs.specs.Classes.{groups, rows_below, same_slot}
-use Rattle.gb_defs.specs.Fault.{fault}
 use Rattle.gb_cols.specs.PlSmallStr.{text_of}
-use Rattle.gb_cols.specs.PolarsError.{IsCause, cause_of}
+use Rattle.gb_cols.specs.PolarsError.{cause_of}
 use Rattle.gb_groups.specs.Groups.{lists_of}
 use Rattle.gb_series.specs.Series.{value_of}
-use Rattle.gb_series.specs.Frame.{frame_fault}
-use Rattle.gb_tool.specs.Folds.{AreRows}
 use Rattle.gb_tool.specs.Request.{aggs_of}
 use Rattle.gb_tool.proofs.GroupingLemmas.{answered, fault_named, firsts_within, key_long, lists_few, lists_rows, parts_fault, refused, refused_height, refused_missing, refused_unfit}
 use Rattle.gb_tool.proofs.grouping.group_frame.Goals as goal
@@ -79,14 +76,14 @@ returns-clause-ok g c =
     let rows_are = c.first.ensures ∙ ap (map (λ (p : ℕ × List ℕ). p.0)) pairs in
     let lists_are = c.all.ensures ∙ ap (map (λ (p : ℕ × List ℕ). p.1)) pairs in
     let same : length c.first.result.now ≡ length (lists_of c.all.result.now) =
-        ap (λ (xs : List ℕ). length xs) rows_are ∙ length-map (groups (same_slot key.slots) (rows_below (length key.slots))) (λ (p : ℕ × List ℕ). p.0)
-        ∙ sym (length-map (groups (same_slot key.slots) (rows_below (length key.slots))) (λ (p : ℕ × List ℕ). p.1)) ∙ ap (λ (xs : List (List ℕ)). length xs) (sym lists_are) in
+    ap (λ (xs : List ℕ). length xs) rows_are ∙ length-map (groups (same_slot key.slots) (rows_below (length key.slots))) (λ (p : ℕ × List ℕ). p.0)
+    ∙ sym (length-map (groups (same_slot key.slots) (rows_below (length key.slots))) (λ (p : ℕ × List ℕ). p.1)) ∙ ap (λ (xs : List (List ℕ)). length xs) (sym lists_are) in
     let columns = map value_of c.in_ok-columns.columns.items in
     let columns_are = map-map content value_of c.in_ok-columns.columns.items ∙ c.in_ok-columns.ensures.ok in
     let named = fault_named frame name key found c.check_height.ensures.frame aggs c.in_ok-check_height.ensures.ok c.in_ok-check_columns.ensures.ok c.in_ok-columns.ensures.fits in
     IfOk-weaker c.new.result _ _ (λ answer h null_word.
-        rw h.0 (answered frame name key found c.check_height.ensures.frame aggs c.first.result.now (lists_of c.all.result.now) columns rows_are lists_are columns_are c.in_ok-texts.ensures.ok.1
-        (named ∙ sym (parts_fault frame key c.first.result.now (lists_of c.all.result.now) same aggs columns columns_are) ∙ h.1) null_word))
+    rw h.0 (answered frame name key found c.check_height.ensures.frame aggs c.first.result.now (lists_of c.all.result.now) columns rows_are lists_are columns_are c.in_ok-texts.ensures.ok.1
+    (named ∙ sym (parts_fault frame key c.first.result.now (lists_of c.all.result.now) same aggs columns columns_are) ∙ h.1) null_word))
     c.new.ensures.ok
 
 pub returns-clause-err : goal.returns-clause-err
@@ -100,8 +97,8 @@ returns-clause-err g c =
     let rows_are = c.first.ensures ∙ ap (map (λ (p : ℕ × List ℕ). p.0)) pairs in
     let lists_are = c.all.ensures ∙ ap (map (λ (p : ℕ × List ℕ). p.1)) pairs in
     let same : length c.first.result.now ≡ length (lists_of c.all.result.now) =
-        ap (λ (xs : List ℕ). length xs) rows_are ∙ length-map (groups (same_slot key.slots) (rows_below (length key.slots))) (λ (p : ℕ × List ℕ). p.0)
-        ∙ sym (length-map (groups (same_slot key.slots) (rows_below (length key.slots))) (λ (p : ℕ × List ℕ). p.1)) ∙ ap (λ (xs : List (List ℕ)). length xs) (sym lists_are) in
+    ap (λ (xs : List ℕ). length xs) rows_are ∙ length-map (groups (same_slot key.slots) (rows_below (length key.slots))) (λ (p : ℕ × List ℕ). p.0)
+    ∙ sym (length-map (groups (same_slot key.slots) (rows_below (length key.slots))) (λ (p : ℕ × List ℕ). p.1)) ∙ ap (λ (xs : List (List ℕ)). length xs) (sym lists_are) in
     let columns = map value_of c.in_ok-columns.columns.items in
     let columns_are = map-map content value_of c.in_ok-columns.columns.items ∙ c.in_ok-columns.ensures.ok in
     let named = fault_named frame name key found c.check_height.ensures.frame aggs c.in_ok-check_height.ensures.ok c.in_ok-check_columns.ensures.ok c.in_ok-columns.ensures.fits in

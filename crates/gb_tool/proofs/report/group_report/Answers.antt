@@ -1,9 +1,6 @@
-use Rattle.std.proofs.Common.{◌≡◌, ◌∙◌, ap, sym, List, ℕ, [], ◌∷◌, map}
+use Rattle.std.proofs.Common.{◌∙◌, ap, sym, [], ◌∷◌}
 use Rattle.std.proofs.lemmas.Result.{err_from_is_err_and}
-use Rattle.gb_defs.specs.Column.{Frame, content}
 use Rattle.gb_defs.specs.Outcome.{Report}
-use Rattle.gb_defs.specs.Table.{readable_table}
-use Rattle.gb_defs.specs.Text.{frame_text}
 use Rattle.gb_cols.specs.PlSmallStr.{text_of}
 use Rattle.gb_tool.specs.Request.{aggs_of, options_of}
 use Rattle.gb_tool.proofs.ReportLemmas.{bad_group, bad_table, good_report}
