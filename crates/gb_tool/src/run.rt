@@ -12,11 +12,11 @@ ghost use Rattle.gb_tool.specs.declared.status.TableFault.TheVariants.{BadCell};
 ghost use Rattle.gb_tool.specs.declared.status.Status.TheVariants as status;
 
 use crate::input::read_all;
-use crate::output::write_all;
+use crate::output::write_text;
 use crate::report::report;
 use crate::status::Status;
 use crate::words::request_of;
-use gb_cols::device::{Failed, Gate, Sink, Source};
+use gb_cols::device::{Gate, Sink, Source};
 use std::alloc::Global;
 use std::thread::Threads;
 
@@ -62,10 +62,8 @@ fn answer<R: Threads + Sync, S: Source, W: Sink, G: Gate + Sync>(
     };
     let bytes = read_all(alloc, source, limit)?;
     let text = report(rt, alloc, &request, bytes.as_slice(), gate)?;
-    match write_all(sink, text.as_slice()) {
-        Ok(()) => Ok(()),
-        Err(Failed) => Err(Status::WriteFault),
-    }
+    write_text(sink, text.as_slice())?;
+    Ok(())
 }
 
 /// Reads the table, answers the request of the words over it, and writes the answer's text. Today
