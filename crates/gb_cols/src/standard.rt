@@ -1,6 +1,9 @@
 //! The standard streams, which tell nothing of their content. A failure raises a count; a write that takes
 //! nothing of a piece is a failure.
 
+ghost use Rattle.std.specs.Prelude.{◌≡◌};
+ghost use Rattle.gb_cols.specs.Standard.{source_faults, output_faults, error_faults};
+
 use crate::device::{Failed, Sink, Source};
 use std::io::{Read, Stderr, Stdin, Stdout, Write};
 
@@ -12,7 +15,10 @@ pub struct StdinSource {
 }
 
 impl StdinSource {
-    pub fn new(stdin: Stdin) -> StdinSource {
+    /// No call has failed yet.
+    pub fn new(stdin: Stdin) -> StdinSource
+        ensures { source_faults result ≡ 0 }
+    {
         StdinSource { stdin, faults: 0 }
     }
 }
@@ -44,7 +50,10 @@ pub struct StdoutSink {
 }
 
 impl StdoutSink {
-    pub fn new(stdout: Stdout) -> StdoutSink {
+    /// No call has failed yet.
+    pub fn new(stdout: Stdout) -> StdoutSink
+        ensures { output_faults result ≡ 0 }
+    {
         StdoutSink { stdout, faults: 0 }
     }
 }
@@ -76,7 +85,10 @@ pub struct StderrSink {
 }
 
 impl StderrSink {
-    pub fn new(stderr: Stderr) -> StderrSink {
+    /// No call has failed yet.
+    pub fn new(stderr: Stderr) -> StderrSink
+        ensures { error_faults result ≡ 0 }
+    {
         StderrSink { stderr, faults: 0 }
     }
 }

@@ -1,5 +1,6 @@
 -- The answer of a grouping by one key whose column has the frame's height.
 use Rattle.std.proofs.Common.{◌≡◌, ℕ, Bool, true, false, ◌&&◌, refl, ◌∙◌, ap, List, [], ◌∷◌, map, length, Some, None, cond, eq-eqb}
+use Rattle.std.proofs.Math.Bool.{and-true}
 use Rattle.gb_defs.specs.Slot.{Slot, slot_at}
 use Rattle.gb_defs.specs.Column.{ColumnValue, Frame, find_column}
 use Rattle.gb_defs.specs.Classes.{agree_by, class, firsts, groups, rows_below, same_slot, stretched}
@@ -12,15 +13,11 @@ use Rattle.gb_defs.specs.Outcome.{BadGroup, Report, is_text, find_columns, outco
 pub stretched_same : (height : ℕ) (key : List Slot) → length key ≡ height → stretched height key ≡ key
 stretched_same height key e = rw (eq-eqb (length key) height e)
 
-and_true : (b : Bool) → (b && true) ≡ b
-and_true true = refl
-and_true false = refl
-
 module _ (frame : Frame) (key : ColumnValue) (high : length key.slots ≡ height_of frame (key ∷ [])) where
   pub agree_one : agree_of frame (key ∷ []) ≡ same_slot key.slots
   agree_one =
       ap (λ (slots : List Slot). agree_by (slots ∷ [])) (stretched_same (height_of frame (key ∷ [])) key.slots high)
-      ∙ (λ i a b. and_true (same_slot key.slots a b) i)
+      ∙ (λ i a b. and-true (same_slot key.slots a b) i)
 
   -- the rows of the answer, and the lists that its aggregates are over, are those of the groups
   pub answer_one : (aggs : List (List ℕ × Method)) → answer frame (key ∷ []) aggs (firsts (agree_of frame (key ∷ [])) (rows_below (height_of frame (key ∷ []))))
