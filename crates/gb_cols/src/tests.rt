@@ -1,11 +1,15 @@
+use crate::array::Array;
 use crate::chunked::{Int64Chunked, StringChunked, UInt32Chunked};
 use crate::data_type::DataType;
 use crate::device::{Failed, Sink, Source};
 use crate::error::{Operation, PolarsError, PolarsResult};
 use crate::memory::{MemSink, SoundSource};
+use crate::numeric::Int64Type;
 use crate::pool::Pool;
+use crate::primitive::PrimitiveArray;
 use crate::small_str::PlSmallStr;
 use crate::sorted::IsSorted;
+use crate::utf8::Utf8Array;
 use std::alloc::Global;
 use std::test::Fail;
 
@@ -82,6 +86,22 @@ fn texts_are_taken(rt: HostRuntime) -> Result<(), Fail> {
     assert_eq!(rt; taken.len(), 3);
     assert_eq!(rt; taken.get(1), Some("bc"));
     assert_eq!(rt; taken.null_count(), 0);
+    Ok(())
+}
+
+#[test]
+fn storages_are_copied(rt: HostRuntime) -> Result<(), Fail> {
+    let mut texts = Utf8Array::empty(rt.alloc());
+    texts.push(Some("ab"))?;
+    texts.push(None)?;
+    let copy = texts.try_clone()?;
+    assert_eq!(rt; copy.len(), 2);
+    assert_eq!(rt; copy.get(0), Some("ab"));
+    assert_eq!(rt; copy.get(1), None);
+    let numbers: PrimitiveArray<Int64Type> = PrimitiveArray::from_slice(rt.alloc(), &[3, 4])?;
+    let copy = numbers.try_clone()?;
+    assert_eq!(rt; copy.len(), 2);
+    assert_eq!(rt; copy.get(1), Some(4));
     Ok(())
 }
 
