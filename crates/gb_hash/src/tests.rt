@@ -72,5 +72,6 @@ fn numbers(rt: HostRuntime) -> Result<(), Fail> {
         assert_eq!(rt; hash, minus_one);
     }
     assert_eq!(rt; (1u128 << 64).dirty_hash(&mixer), 17069728591328954800);
+    assert_eq!(rt; (-1i128).dirty_hash(&mixer), 490528790413895549);
     Ok(())
 }
