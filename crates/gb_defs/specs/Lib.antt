@@ -5,6 +5,7 @@ pub mod Column
 pub mod Classes
 pub mod Fold
 pub mod Groups
+pub mod Hash
 pub mod Answer
 pub mod Fault
 pub mod TypeWord

@@ -4,5 +4,6 @@
 //! slow program that the definitions describe, and `worked` what they give on worked rows.
 #![tactic(auto)]
 
+pub mod hashes;
 pub mod plain;
 pub mod worked;

@@ -1,0 +1,11 @@
+//! Hashes of whole numbers, and what is done with a hash. A hash follows from the number's bits, the
+//! seed and the mixing function of a mixer, so that equal numbers hash alike in every run. A hash is
+//! joined with another, or picks one of several partitions.
+#![tactic(auto)]
+
+pub mod combine;
+pub mod dirty_hash;
+pub mod id_hasher;
+pub mod mixer;
+#[cfg(test)]
+mod tests;
