@@ -6,6 +6,8 @@
 pub mod combine;
 pub mod dirty_hash;
 pub mod id_hasher;
+pub mod key_rows;
 pub mod mixer;
+pub mod steps;
 #[cfg(test)]
 mod tests;
