@@ -1,7 +1,12 @@
 -- Rows by the numbers of their groups.
-use Rattle.std.specs.Prelude.{◌≡◌, ℕ, ◌+◌, ◌≤◌, ◌==◌, List, [], ◌∷◌, cond, map, count_by}
+use Rattle.std.specs.Prelude.{◌≡◌, ℕ, Bool, ◌+◌, ◌≤◌, ◌==◌, List, [], ◌∷◌, cond, map, count_by}
 use Rattle.std.specs.List.{range_with_len}
+use Rattle.gb_defs.specs.Slot.{Slot, slot_eq}
 use Rattle.smallvec.specs.SmallVec.{SmallVec}
+
+-- rows with one slot
+abbrev pub same_slot_at : (ℕ → Slot) → ℕ → ℕ → Bool
+same_slot_at slot i j = slot_eq (slot i) (slot j)
 
 -- of rows that begin at `row` and have these numbers, those with number k
 unfoldable pub rows_from : ℕ → List ℕ → ℕ → List ℕ

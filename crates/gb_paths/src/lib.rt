@@ -2,6 +2,6 @@
 //! of their first rows.
 #![tactic(auto)]
 
-pub mod into_groups;
+pub mod group_by;
 mod row_lists;
 mod row_numbers;

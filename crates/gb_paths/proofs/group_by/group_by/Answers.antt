@@ -4,7 +4,7 @@ use Rattle.std.proofs.lemmas.List.FromFn.{length-map-range_with_len}
 use Rattle.smallvec.specs.SmallVec.{SmallVec}
 use Rattle.gb_groups.specs.Groups.{lists_of}
 use Rattle.gb_paths.specs.Numbers.{lists_by, rows_from}
-use Rattle.gb_paths.proofs.into_groups.StringChunkedIntoGroupsType.group_tuples.Goals as goal
+use Rattle.gb_paths.proofs.group_by.group_by.Goals as goal
 
 as_many : (numbers : List ℕ) (groups : ℕ) (lists : List (SmallVec ℕ)) → lists_of lists ≡ lists_by numbers groups → groups ≡ length lists
 as_many numbers groups lists made =

@@ -1,0 +1,69 @@
+//! Groups of any rows that have keys, by one hash table.
+
+ghost use Rattle.std.specs.Prelude.{◌≡◌, ℕ, ◌+◌, ◌<◌, ◌≤◌, ◌^◌, IfOk, IfErr, OnOk};
+ghost use Rattle.gb_defs.specs.Classes.{groups, rows_below};
+ghost use Rattle.gb_defs.specs.Groups.{Idx};
+ghost use Rattle.gb_cols.specs.PlSmallStr.{IsNoMemory};
+ghost use Rattle.gb_groups.specs.GroupsType.{groups_of};
+ghost use Rattle.gb_paths.specs.Numbers.{same_slot_at};
+
+use crate::row_lists::row_lists;
+use crate::row_numbers::number_rows;
+use gb_cols::error::PolarsResult;
+use gb_groups::groups_idx::GroupsIdx;
+use gb_groups::groups_type::GroupsType;
+use gb_hash::key_rows::KeyRows;
+use gb_hash::steps::Steps;
+use std::alloc::Global;
+use std::marker::Brand;
+use std::sync::ledger::{Blank, Ledger};
+
+/// The rows that hold one key, in the order of their first rows, flagged as sorted where that is asked
+/// for. It takes one step a row.
+pub fn group_by<R: KeyRows, L: Ledger>(
+    alloc: Global,
+    rows: &R,
+    sorted: bool,
+    steps: &mut Steps<L>,
+) -> PolarsResult<GroupsType>
+    requires { R.row_count rows.now < 2 ^ 32 }
+    ensures ok { IfOk result (λ g. groups_of g ≡ record { pairs = groups (same_slot_at (R.slot rows.now)) (rows_below (R.row_count rows.now)); form = Idx; flagged = sorted }) }
+    ensures err { IfErr result IsNoMemory }
+    ensures steps { OnOk result (steps.new ≡ steps.old + R.row_count rows.now) }
+    ensures steps_at_most { steps.new ≤ steps.old + R.row_count rows.now }
+{
+    let found = number_rows(alloc, rows, steps)?;
+    let lists = row_lists(alloc, found.numbers.as_slice(), found.first.len())?;
+    Ok(GroupsType::from(GroupsIdx::new(found.first, lists, sorted)))
+}
+
+// `group_by`, with a counter of its own.
+fn group_blank<R: KeyRows, L: Ledger>(
+    alloc: Global,
+    rows: &R,
+    sorted: bool,
+    blank: Blank,
+) -> PolarsResult<GroupsType>
+    requires name { blank.name ≡ L.name }
+    requires parts { blank.parts ≡ L.parts }
+    requires some { 0 < L.parts }
+    requires few { R.row_count rows.now < 2 ^ 32 }
+    ensures ok { IfOk result (λ g. groups_of g ≡ record { pairs = groups (same_slot_at (R.slot rows.now)) (rows_below (R.row_count rows.now)); form = Idx; flagged = sorted }) }
+    ensures err { IfErr result IsNoMemory }
+{
+    let mut steps: Steps<L> = Steps::new(blank);
+    group_by(alloc, rows, sorted, &mut steps)
+}
+
+/// `group_by`, with no steps counted.
+pub fn group_uncounted<R: KeyRows>(
+    alloc: Global,
+    rows: &R,
+    sorted: bool,
+) -> PolarsResult<GroupsType>
+    requires { R.row_count rows.now < 2 ^ 32 }
+    ensures ok { IfOk result (λ g. groups_of g ≡ record { pairs = groups (same_slot_at (R.slot rows.now)) (rows_below (R.row_count rows.now)); form = Idx; flagged = sorted }) }
+    ensures err { IfErr result IsNoMemory }
+{
+    group_blank::<R, Brand>(alloc, rows, sorted, Blank::new(1))
+}
