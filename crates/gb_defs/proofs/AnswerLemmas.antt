@@ -8,7 +8,7 @@ use Rattle.gb_defs.specs.Fold.{Method}
 use Rattle.gb_defs.specs.Answer.{height_of, agree_of, aggregated, answer}
 use Rattle.gb_defs.specs.Fault.{Fault, fault}
 use Rattle.gb_defs.specs.Text.{frame_text}
-use Rattle.gb_defs.specs.Outcome.{BadGroup, Report, is_text, find_columns, outcome_by_keys, answer_text}
+use Rattle.gb_defs.specs.Outcome.{BadGroup, Report, find_columns, outcome_by_keys, answer_text}
 
 pub stretched_same : (height : ℕ) (key : List Slot) → length key ≡ height → stretched height key ≡ key
 stretched_same height key e = rw (eq-eqb (length key) height e)
@@ -48,20 +48,10 @@ module _ (frame : Frame) (aggs : List (List ℕ × Method)) (null_word name : Li
   pub no_key : find_column frame name ≡ None → outcome_by_keys frame aggs null_word (find_columns frame (name ∷ [])) ≡ BadGroup
   no_key e = rw e
 
-  pub other_key : (key : ColumnValue) → find_column frame name ≡ Some key → is_text key.dtype ≡ false → outcome_by_keys frame aggs null_word (find_columns frame (name ∷ [])) ≡ BadGroup
-  other_key key e other = rw (e, other)
-
-  both_true : (b : Bool) → b ≡ true → (b && true) ≡ true
-  both_true b e = rw e
-
   pub faulty : (key : ColumnValue) (f : Fault) → find_column frame name ≡ Some key → fault frame (key ∷ []) aggs ≡ Some f → outcome_by_keys frame aggs null_word (find_columns frame (name ∷ [])) ≡ BadGroup
-  faulty key f e at = rw (e, at) (ap (λ b. cond b (Report (answer_text frame (key ∷ []) aggs null_word)) BadGroup) (and_false (is_text key.dtype && true)))
-    where
-      and_false : (b : Bool) → (b && false) ≡ false
-      and_false true = refl
-      and_false false = refl
+  faulty key f e at = rw (e, at)
 
-  pub reported : (key : ColumnValue) → find_column frame name ≡ Some key → is_text key.dtype ≡ true → fault frame (key ∷ []) aggs ≡ None →
+  pub reported : (key : ColumnValue) → find_column frame name ≡ Some key → fault frame (key ∷ []) aggs ≡ None →
       outcome_by_keys frame aggs null_word (find_columns frame (name ∷ []))
       ≡ Report (frame_text (answer frame (key ∷ []) aggs (firsts (agree_of frame (key ∷ [])) (rows_below (height_of frame (key ∷ []))))) null_word)
-  reported key e is none = rw (e, is, none)
+  reported key e none = rw (e, none)

@@ -1,7 +1,5 @@
 -- What a request makes of the bytes of a table: the text that is to be written, or why there is none.
-use Rattle.std.specs.Prelude.{◌&&◌, ℕ, Bool, true, false, List, [], ◌∷◌, Option, Some, None, is_none, if◌then◌else◌}
-use Rattle.std.specs.List.{list_all}
-use Rattle.gb_defs.specs.ColumnType.{ColumnType, FlatType, Flat, ListOf, ArrayOf, StructOf, String}
+use Rattle.std.specs.Prelude.{ℕ, List, [], ◌∷◌, Option, Some, None, is_none, if◌then◌else◌}
 use Rattle.gb_defs.specs.Column.{ColumnValue, Frame, find_column}
 use Rattle.gb_defs.specs.Classes.{firsts, rows_below}
 use Rattle.gb_defs.specs.Fold.{Method}
@@ -14,20 +12,10 @@ use Rattle.gb_defs.specs.Request.{Request, Group}
 pub data Outcome : Type 0 where
   -- the table has a fault, or a type that is not read today
   BadTable : Outcome
-  -- the key is missing, it is no text column, or the grouping has a fault
+  -- a key is missing, or the grouping has a fault
   BadGroup : Outcome
   -- the text of the answer
   Report : List ℕ → Outcome
-
-abbrev pub is_text_flat : FlatType → Bool
-is_text_flat String = true
-is_text_flat _ = false
-
-abbrev pub is_text : ColumnType → Bool
-is_text (Flat t) = is_text_flat t
-is_text (ListOf t) = false
-is_text (ArrayOf t width) = false
-is_text (StructOf fs) = false
 
 abbrev pub column_onto : Option ColumnValue → Option (List ColumnValue) → Option (List ColumnValue)
 column_onto None rest = None
@@ -46,7 +34,7 @@ answer_text frame keys aggs null_word = frame_text (answer frame keys aggs (firs
 abbrev pub outcome_by_keys : Frame → List (List ℕ × Method) → List ℕ → Option (List ColumnValue) → Outcome
 outcome_by_keys frame aggs null_word None = BadGroup
 outcome_by_keys frame aggs null_word (Some keys) =
-    if list_all (λ key. is_text key.dtype) keys && is_none (fault frame keys aggs) then Report (answer_text frame keys aggs null_word) else BadGroup
+    if is_none (fault frame keys aggs) then Report (answer_text frame keys aggs null_word) else BadGroup
 
 abbrev pub outcome_by_frame : List (List ℕ) → List (List ℕ × Method) → List ℕ → Option Frame → Outcome
 outcome_by_frame by aggs null_word None = BadTable

@@ -20,6 +20,7 @@ pub fn outcomes()
     ensures sums_and_counts { outcome sums_by_date (codes "date,temp:i64\n2020-08-21,20\n2020-08-21,10\n2020-08-22,7\n2020-08-23,9\n2020-08-22,1\n")
         ≡ Report (codes "date:str,temp_sum:i64,temp_count:u32\n2020-08-21,30,2\n2020-08-22,8,2\n2020-08-23,9,1\n") }
     ensures null_is_a_group { outcome sums_by_key (codes "k,v:i64\n,5\n1,6\n,7\n") ≡ Report (codes "k:str,v_sum:i64\n,12\n1,6\n") }
+    ensures number_key { outcome sums_by_key (codes "k:i64,v:i64\n,5\n1,6\n,7\n") ≡ Report (codes "k:i64,v_sum:i64\n,12\n1,6\n") }
     ensures no_rows { outcome sums_by_key (codes "k,v:i64\n") ≡ Report (codes "k:str,v_sum:i64\n") }
     ensures sums_wrap { outcome sums_by_key (codes "k,v:i64\nx,9223372036854775807\nx,1\n") ≡ Report (codes "k:str,v_sum:i64\nx,-9223372036854775808\n") }
     ensures quoted { outcome sums_by_key (codes "k,v:i64\r\n\"x, y\",+2\r\n\"x, y\",-5\r\n") ≡ Report (codes "k:str,v_sum:i64\n\"x, y\",-3\n") }

@@ -1,8 +1,7 @@
-ghost use Rattle.std.specs.Prelude.{◌≡◌, ◌==◌, ℕ, ◌<◌, ◌^◌, length, true, false, IfOk, IfErr, IfSome, IfNone, All};
+ghost use Rattle.std.specs.Prelude.{◌≡◌, ◌==◌, ℕ, ◌<◌, ◌^◌, length, IfOk, IfErr, All};
 ghost use Rattle.std.specs.List.{count_by};
 ghost use Rattle.gb_defs.specs.Slot.{is_nil};
 ghost use Rattle.gb_defs.specs.Column.{ColumnValue};
-ghost use Rattle.gb_defs.specs.Outcome.{is_text};
 ghost use Rattle.gb_cols.specs.PlSmallStr.{text_of, IsNoMemory};
 ghost use Rattle.gb_cols.specs.DataType.{type_of};
 
@@ -80,28 +79,6 @@ impl Series {
             Series::UInt32(column) => column.null_count(),
             Series::Int64(column) => column.null_count(),
             Series::String(column) => column.null_count(),
-        }
-    }
-
-    /// The column, where it is one of texts.
-    pub fn try_str(&self) -> Option<&StringChunked>
-        ensures some { IfSome result (λ texts. (texts.now ≡ value_of self.now) × (is_text (value_of self.now).dtype ≡ true)) }
-        ensures none { IfNone result (is_text (value_of self.now).dtype ≡ false) }
-    {
-        // With its name a column states that its type is its storage's.
-        match self {
-            Series::UInt32(column) => {
-                let _ = column.name();
-                None
-            }
-            Series::Int64(column) => {
-                let _ = column.name();
-                None
-            }
-            Series::String(column) => {
-                let _ = column.name();
-                Some(column)
-            }
         }
     }
 

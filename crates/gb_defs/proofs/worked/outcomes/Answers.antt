@@ -25,6 +25,10 @@ pub returns-clause-null_is_a_group : goal.returns-clause-null_is_a_group
 unfolding outcome table records_from next_record strip_bom head_of type_words cell_slot is_utf8 fault answer firsts is_first class fold_picked frame_text int_wrap escaped fields_text is_blank chars encode digits
 returns-clause-null_is_a_group c = refl
 
+pub returns-clause-number_key : goal.returns-clause-number_key
+unfolding outcome table records_from next_record strip_bom head_of type_words cell_slot is_utf8 fault answer firsts is_first class fold_picked frame_text int_wrap escaped fields_text is_blank chars encode digits
+returns-clause-number_key c = refl
+
 pub returns-clause-no_rows : goal.returns-clause-no_rows
 unfolding outcome table records_from next_record strip_bom head_of type_words cell_slot is_utf8 fault answer firsts is_first class fold_picked frame_text int_wrap escaped fields_text is_blank chars encode digits
 returns-clause-no_rows c = refl
