@@ -1,8 +1,11 @@
-ghost use Rattle.std.specs.Prelude.{◌≡◌, ◌<◌, ℕ, List, [], length, IsTrue, ◌↔◌, ◌==◌, false, map, zip, slice_index_or};
+ghost use Rattle.std.specs.Prelude.{◌≡◌, ◌<◌, ℕ, List, [], length, IsTrue, ◌↔◌, ◌==◌, false, map, zip, slice_index_or, IfOk, IfErr};
 ghost use Rattle.std.specs.List.Sorted.{IsNonDecreasing};
+ghost use Rattle.gb_cols.specs.PlSmallStr.{IsNoMemory};
 ghost use Rattle.gb_defs.specs.Groups.{Idx};
 
+use crate::items::{push_items, take_items};
 use crate::iter::GroupsIdxIter;
+use gb_cols::error::PolarsResult;
 use smallvec::SmallVec;
 use std::alloc::Global;
 use std::marker::Model;
@@ -41,7 +44,7 @@ impl Model for GroupsIdx {
 }
 
 impl GroupsIdx {
-    ghost use Rattle.gb_groups.specs.Groups.{lists_of, lent_pair};
+    ghost use Rattle.gb_groups.specs.Groups.{lists_of, lent_pair, pairs_of};
 
     /// No groups, not flagged as sorted.
     pub fn empty(alloc: Global) -> GroupsIdx
@@ -61,6 +64,27 @@ impl GroupsIdx {
         ensures { result ≡ record { pairs = zip first.items (lists_of all.items); form = Idx; flagged = sorted } }
     {
         GroupsIdx { first, all, sorted }
+    }
+
+    /// The groups that these items are, in order.
+    pub fn from_items(alloc: Global, items: Vec<IdxItem>) -> PolarsResult<GroupsIdx>
+        ensures ok { IfOk result (λ g. g ≡ record { pairs = pairs_of items.items; form = Idx; flagged = false }) }
+        ensures err { IfErr result IsNoMemory }
+    {
+        let mut first = Vec::with_capacity(alloc, items.len())?;
+        let mut all = Vec::with_capacity(alloc, items.len())?;
+        push_items(&mut first, &mut all, items);
+        Ok(GroupsIdx::new(first, all, false))
+    }
+
+    /// The groups as items, in order.
+    pub fn into_items(self) -> PolarsResult<Vec<IdxItem>>
+        ensures ok { IfOk result (λ items. pairs_of items.items ≡ self.pairs) }
+        ensures err { IfErr result IsNoMemory }
+    {
+        let mut first = self.first;
+        let mut all = self.all;
+        Ok(take_items(&mut first, &mut all)?)
     }
 
     /// Whether no row stands before a smaller one, as `new` asks of groups that are flagged as sorted.
