@@ -1,6 +1,6 @@
 -- Items that are taken from first rows and row lists, one at a time.
 use Rattle.std.proofs.Common.{◌≡◌, ℕ, ◌+◌, ◌<◌, ◌≤◌, List, [], ◌∷◌, ◌++◌, length, get_or, take, drop, map, zip, refl, sym, ◌∙◌, ap, arith}
-use Rattle.std.proofs.lemmas.List.{take_more, take_all, map-append, length-map, get_or-map, get_or-drop, get_or_default}
+use Rattle.std.proofs.lemmas.List.{take_more, take_all, map-append, length-map, get_or-map, get_or-drop}
 use Rattle.std.proofs.lemmas.Slice.Zip.{length-zip, get_or-zip}
 use Rattle.smallvec.specs.SmallVec.{SmallVec}
 use Rattle.gb_groups.specs.Groups.{lists_of, owned_pair, pairs_of}
@@ -31,3 +31,7 @@ module _ (first : List ℕ) (old : List (SmallVec ℕ)) (long : length first ≡
 pub apart : (items : List (ℕ × SmallVec ℕ)) → zip (map (λ (item : ℕ × SmallVec ℕ). item.0) items) (lists_of (map (λ (item : ℕ × SmallVec ℕ). item.1) items)) ≡ pairs_of items
 apart [] = refl
 apart (item ∷ items) = ap (λ pairs. owned_pair item ∷ pairs) (apart items)
+
+-- items that are put into vectors that were empty
+pub put_into : (items : List (ℕ × SmallVec ℕ)) (first first' : List ℕ) (all all' : List (SmallVec ℕ)) → first ≡ [] → all ≡ [] → first' ≡ first ++ map (λ (item : ℕ × SmallVec ℕ). item.0) items → all' ≡ all ++ map (λ (item : ℕ × SmallVec ℕ). item.1) items → zip first' (lists_of all') ≡ pairs_of items
+put_into items first first' all all' none none_all rows lists = rw (rows, lists, none, none_all) (apart items)

@@ -1,4 +1,4 @@
-ghost use Rattle.std.specs.Prelude.{◌≡◌, ◌<◌, ℕ, List, [], length, IsTrue, ◌↔◌, ◌==◌, false, map, zip, slice_index_or, IfOk, IfErr};
+ghost use Rattle.std.specs.Prelude.{◌≡◌, ◌<◌, ℕ, List, [], length, IsTrue, ◌↔◌, ◌==◌, true, false, map, zip, slice_index_or, IfOk, IfErr, OnOk, OnErr};
 ghost use Rattle.std.specs.List.Sorted.{IsNonDecreasing};
 ghost use Rattle.gb_cols.specs.PlSmallStr.{IsNoMemory};
 ghost use Rattle.gb_defs.specs.Groups.{Idx};
@@ -45,6 +45,7 @@ impl Model for GroupsIdx {
 
 impl GroupsIdx {
     ghost use Rattle.gb_groups.specs.Groups.{lists_of, lent_pair, pairs_of};
+    ghost use Rattle.gb_groups.specs.Order.{IsByFirst};
 
     /// No groups, not flagged as sorted.
     pub fn empty(alloc: Global) -> GroupsIdx
@@ -134,6 +135,26 @@ impl GroupsIdx {
         ensures { result ≡ self.now.pairs }
     {
         GroupsIdxIter::new(self.first.as_slice(), self.all.as_slice())
+    }
+
+    /// Puts the groups in the order of their first rows. Groups of one first row keep their order.
+    pub fn sort(&mut self) -> PolarsResult<()>
+        ensures sorted { OnOk result (IsByFirst self.old.pairs self.new.pairs) }
+        ensures flagged { OnOk result (self.new.flagged ≡ true) }
+        ensures form { self.new.form ≡ self.old.form }
+        ensures known { IsTrue self.old.flagged → self.new ≡ self.old }
+        ensures unchanged { OnErr result (self.new ≡ self.old) }
+        ensures err { IfErr result IsNoMemory }
+    {
+        if self.sorted {
+            return Ok(());
+        }
+        let mut items = take_items(&mut self.first, &mut self.all)?;
+        let sorted = items.sort_by_key(|item| item.0);
+        push_items(&mut self.first, &mut self.all, items);
+        sorted?;
+        self.sorted = true;
+        Ok(())
     }
 
     /// Whether the first rows are known to ascend.

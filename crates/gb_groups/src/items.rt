@@ -28,6 +28,7 @@ pub(crate) fn push_items(first: &mut Vec<IdxSize>, all: &mut Vec<IdxVec>, items:
 pub(crate) fn take_items(first: &mut Vec<IdxSize>, all: &mut Vec<IdxVec>) -> Result<Vec<IdxItem>, AllocError>
     requires { length first.old.items ≡ length all.old.items }
     ensures ok { IfOk result (λ items. pairs_of items.items ≡ zip first.old.items (lists_of all.old.items)) }
+    ensures count { IfOk result (λ items. length items.items ≡ length first.old.items) }
     ensures first_empty { OnOk result (first.new.items ≡ []) }
     ensures all_empty { OnOk result (all.new.items ≡ []) }
     ensures first_capacity { vec_capacity first.new ≡ vec_capacity first.old }
