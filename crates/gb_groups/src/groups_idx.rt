@@ -1,11 +1,13 @@
 ghost use Rattle.std.specs.Prelude.{◌≡◌, ◌<◌, ℕ, List, [], length, IsTrue, ◌↔◌, ◌==◌, true, false, map, zip, slice_index_or, IfOk, IfErr, OnOk, OnErr};
+ghost use Rattle.std.specs.List.{flat_map};
 ghost use Rattle.std.specs.List.Sorted.{IsNonDecreasing};
 ghost use Rattle.gb_cols.specs.PlSmallStr.{IsNoMemory};
 ghost use Rattle.gb_defs.specs.Groups.{Idx};
 
-use crate::items::{push_items, take_items};
+use crate::items::{count_items, push_items, take_items};
 use crate::iter::GroupsIdxIter;
 use gb_cols::error::PolarsResult;
+use gb_cols::pool::Pool;
 use smallvec::SmallVec;
 use std::alloc::Global;
 use std::marker::Model;
@@ -75,6 +77,20 @@ impl GroupsIdx {
         let mut first = Vec::with_capacity(alloc, items.len())?;
         let mut all = Vec::with_capacity(alloc, items.len())?;
         push_items(&mut first, &mut all, items);
+        Ok(GroupsIdx::new(first, all, false))
+    }
+
+    /// The groups of each part in order, part after part. The pool spreads the work, and changes no answer.
+    pub fn from_parts(alloc: Global, parts: Vec<Vec<IdxItem>>, _pool: &Pool) -> PolarsResult<GroupsIdx>
+        ensures ok { IfOk result (λ g. g ≡ record { pairs = pairs_of (flat_map (λ part. part.items) parts.items); form = Idx; flagged = false }) }
+        ensures err { IfErr result IsNoMemory }
+    {
+        let count = count_items(&parts)?;
+        let mut first = Vec::with_capacity(alloc, count)?;
+        let mut all = Vec::with_capacity(alloc, count)?;
+        for part in parts {
+            push_items(&mut first, &mut all, part);
+        }
         Ok(GroupsIdx::new(first, all, false))
     }
 

@@ -1,10 +1,13 @@
 //! Groups as first rows and row lists apart, and as items. Row lists are moved, never copied.
 
-ghost use Rattle.std.specs.Prelude.{◌≡◌, ◌+◌, ◌≤◌, [], ◌++◌, length, map, zip, IfOk, OnOk, OnErr};
+ghost use Rattle.std.specs.Prelude.{◌≡◌, ◌+◌, ◌≤◌, [], ◌++◌, length, map, zip, IfOk, IfErr, OnOk, OnErr};
+ghost use Rattle.std.specs.List.{flat_map};
 ghost use Rattle.std.specs.Vec.{vec_capacity};
+ghost use Rattle.gb_cols.specs.PlSmallStr.{IsNoMemory};
 ghost use Rattle.gb_groups.specs.Groups.{lists_of, pairs_of};
 
 use crate::groups_idx::{IdxItem, IdxSize, IdxVec};
+use gb_cols::error::{PolarsError, PolarsResult};
 use smallvec::SmallVec;
 use std::alloc::AllocError;
 use std::mem;
@@ -22,6 +25,18 @@ pub(crate) fn push_items(first: &mut Vec<IdxSize>, all: &mut Vec<IdxVec>, items:
         first.push_reserved(row);
         all.push_reserved(rows);
     }
+}
+
+/// How many items the parts have. More than a `usize` counts are more than memory holds.
+pub(crate) fn count_items(parts: &[Vec<IdxItem>]) -> PolarsResult<usize>
+    ensures ok { IfOk result (λ count. count ≡ length (flat_map (λ part. part.items) parts.now)) }
+    ensures err { IfErr result IsNoMemory }
+{
+    let mut count = 0usize;
+    for part in parts {
+        count = count.checked_add(part.len()).ok_or(PolarsError::NoMemory)?;
+    }
+    Ok(count)
 }
 
 /// Moves all groups out of both vectors, which keep their room.
