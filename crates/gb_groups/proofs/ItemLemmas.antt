@@ -5,7 +5,6 @@ use Rattle.std.proofs.lemmas.Slice.Zip.{length-zip, get_or-zip}
 use Rattle.smallvec.specs.SmallVec.{SmallVec}
 use Rattle.gb_groups.specs.Groups.{lists_of, owned_pair, pairs_of}
 
-
 -- what is left of the lists is as it was
 pub left_at : (now old : List (SmallVec ℕ)) (n : ℕ) (d : SmallVec ℕ) → drop n now ≡ drop n old → get_or now n d ≡ get_or old n d
 left_at now old n d same =

@@ -5,7 +5,6 @@ use Rattle.std.proofs.lemmas.List.{drop_more, length-append, map-id, take-append
 use Rattle.std.proofs.lemmas.List.Concat.{flat_map-append}
 
 module _ {P A : Type 0} (items_of : P → List A) where
-
   -- a part and those before it are no more than all
   pub joined_room : (parts before : List P) (part : P) → map (λ (p : P). p) before ≡ take (length before) parts → length before < length parts → part ≡ get_or parts (length before) part → length (flat_map items_of before) + length (items_of part) ≤ length (flat_map items_of parts)
   joined_room parts before part so_far lt is =

@@ -81,7 +81,11 @@ impl GroupsIdx {
     }
 
     /// The groups of each part in order, part after part. The pool spreads the work, and changes no answer.
-    pub fn from_parts(alloc: Global, parts: Vec<Vec<IdxItem>>, _pool: &Pool) -> PolarsResult<GroupsIdx>
+    pub fn from_parts(
+        alloc: Global,
+        parts: Vec<Vec<IdxItem>>,
+        _pool: &Pool,
+    ) -> PolarsResult<GroupsIdx>
         ensures ok { IfOk result (λ g. g ≡ record { pairs = pairs_of (flat_map (λ part. part.items) parts.items); form = Idx; flagged = false }) }
         ensures err { IfErr result IsNoMemory }
     {
@@ -178,5 +182,56 @@ impl GroupsIdx {
         ensures { result ≡ self.now.flagged }
     {
         self.sorted
+    }
+}
+
+#[cfg(test)]
+mod tests {
+    use super::*;
+    use crate::groups_type::GroupsType;
+    use std::process::Abort;
+    use std::test::Fail;
+
+    // Groups of one row each: the first row that they are told to have, and the row.
+    fn items(alloc: Global, pairs: &[(u32, u32)]) -> Result<Vec<IdxItem>, Fail> {
+        let mut items: Vec<IdxItem> = Vec::new(alloc);
+        for (first, row) in pairs {
+            items.push((*first, SmallVec::from_slice(alloc, &[*row])?))?;
+        }
+        Ok(items)
+    }
+
+    fn expect_pairs<R: Abort>(rt: &R, groups: &GroupsIdx, pairs: &[(u32, u32)]) {
+        assert_eq!(rt; groups.len(), pairs.len());
+        for ((first, rows), pair) in groups.iter().zip(pairs.iter()) {
+            assert_eq!(rt; first, pair.0);
+            assert_eq!(rt; rows.as_slice(), [pair.1].as_slice());
+        }
+    }
+
+    #[test]
+    fn groups_of_one_first_row_keep_their_order(rt: HostRuntime) -> Result<(), Fail> {
+        let alloc = rt.alloc();
+        let pool = Pool::new(1, 1, 1, 1, 0);
+        let given = [(2, 0), (1, 1), (2, 2), (0, 3), (1, 4)];
+        let joined = [(2, 0), (1, 1), (2, 2), (0, 3), (1, 4), (0, 5), (2, 6)];
+        let sorted = [(0, 3), (0, 5), (1, 1), (1, 4), (2, 0), (2, 2), (2, 6)];
+
+        let groups = GroupsIdx::from_items(alloc, items(alloc, &given)?)?;
+        expect_pairs(&rt, &groups, &given);
+        let mut parts = Vec::new(alloc);
+        parts.push(groups.into_items()?)?;
+        parts.push(Vec::new(alloc))?;
+        parts.push(items(alloc, &[(0, 5), (2, 6)])?)?;
+        let mut groups = GroupsIdx::from_parts(alloc, parts, &pool)?;
+        assert!(rt; !groups.is_sorted_flag());
+        expect_pairs(&rt, &groups, &joined);
+        groups.sort()?;
+        assert!(rt; groups.is_sorted_flag());
+        expect_pairs(&rt, &groups, &sorted);
+        let mut groups = GroupsType::from(groups);
+        groups.sort()?;
+        expect_pairs(&rt, groups.unwrap_idx(), &sorted);
+        Ok(())
     }
 }

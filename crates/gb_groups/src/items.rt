@@ -40,7 +40,10 @@ pub(crate) fn count_items(parts: &[Vec<IdxItem>]) -> PolarsResult<usize>
 }
 
 /// Moves all groups out of both vectors, which keep their room.
-pub(crate) fn take_items(first: &mut Vec<IdxSize>, all: &mut Vec<IdxVec>) -> Result<Vec<IdxItem>, AllocError>
+pub(crate) fn take_items(
+    first: &mut Vec<IdxSize>,
+    all: &mut Vec<IdxVec>,
+) -> Result<Vec<IdxItem>, AllocError>
     requires { length first.old.items ≡ length all.old.items }
     ensures ok { IfOk result (λ items. pairs_of items.items ≡ zip first.old.items (lists_of all.old.items)) }
     ensures count { IfOk result (λ items. length items.items ≡ length first.old.items) }

@@ -3,7 +3,6 @@ use Rattle.gb_defs.specs.Groups.{Grouping, Idx}
 use Rattle.gb_groups.proofs.ItemLemmas.{put_into}
 use Rattle.gb_groups.proofs.groups_idx.GroupsIdx.from_items.Goals as goal
 
-
 abbrev unsorted : List (ℕ × List ℕ) → Grouping
 unsorted pairs = record { pairs = pairs; form = Idx; flagged = false }
 
