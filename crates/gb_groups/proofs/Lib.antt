@@ -1,0 +1,4 @@
+pub mod ItemLemmas
+pub mod OrderLemmas
+pub mod PartLemmas
+pub mod OnceLemmas

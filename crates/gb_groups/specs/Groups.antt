@@ -10,3 +10,10 @@ lists_of lists = map (λ rows. rows.items) lists
 -- a group whose rows are lent
 abbrev pub lent_pair : ℕ × Bor (SmallVec ℕ) → ℕ × List ℕ
 lent_pair item = (item.0, item.1.now.items)
+
+-- a group that is owned
+abbrev pub owned_pair : ℕ × SmallVec ℕ → ℕ × List ℕ
+owned_pair item = (item.0, item.1.items)
+
+abbrev pub pairs_of : List (ℕ × SmallVec ℕ) → List (ℕ × List ℕ)
+pairs_of items = map owned_pair items

@@ -1,8 +1,13 @@
-ghost use Rattle.std.specs.Prelude.{◌≡◌, ◌<◌, ℕ, List, [], length, IsTrue, ◌↔◌, ◌==◌, false, map, zip, slice_index_or};
+ghost use Rattle.std.specs.Prelude.{◌≡◌, ◌<◌, ℕ, List, [], length, IsTrue, ◌↔◌, ◌==◌, true, false, map, zip, slice_index_or, IfOk, IfErr, OnOk, OnErr};
+ghost use Rattle.std.specs.List.{flat_map};
 ghost use Rattle.std.specs.List.Sorted.{IsNonDecreasing};
+ghost use Rattle.gb_cols.specs.PlSmallStr.{IsNoMemory};
 ghost use Rattle.gb_defs.specs.Groups.{Idx};
 
+use crate::items::{count_items, push_items, take_items};
 use crate::iter::GroupsIdxIter;
+use gb_cols::error::PolarsResult;
+use gb_cols::pool::Pool;
 use smallvec::SmallVec;
 use std::alloc::Global;
 use std::marker::Model;
@@ -41,7 +46,8 @@ impl Model for GroupsIdx {
 }
 
 impl GroupsIdx {
-    ghost use Rattle.gb_groups.specs.Groups.{lists_of, lent_pair};
+    ghost use Rattle.gb_groups.specs.Groups.{lists_of, lent_pair, pairs_of};
+    ghost use Rattle.gb_groups.specs.Order.{IsByFirst};
 
     /// No groups, not flagged as sorted.
     pub fn empty(alloc: Global) -> GroupsIdx
@@ -61,6 +67,45 @@ impl GroupsIdx {
         ensures { result ≡ record { pairs = zip first.items (lists_of all.items); form = Idx; flagged = sorted } }
     {
         GroupsIdx { first, all, sorted }
+    }
+
+    /// The groups that these items are, in order.
+    pub fn from_items(alloc: Global, items: Vec<IdxItem>) -> PolarsResult<GroupsIdx>
+        ensures ok { IfOk result (λ g. g ≡ record { pairs = pairs_of items.items; form = Idx; flagged = false }) }
+        ensures err { IfErr result IsNoMemory }
+    {
+        let mut first = Vec::with_capacity(alloc, items.len())?;
+        let mut all = Vec::with_capacity(alloc, items.len())?;
+        push_items(&mut first, &mut all, items);
+        Ok(GroupsIdx::new(first, all, false))
+    }
+
+    /// The groups of each part in order, part after part. The pool spreads the work, and changes no answer.
+    pub fn from_parts(
+        alloc: Global,
+        parts: Vec<Vec<IdxItem>>,
+        _pool: &Pool,
+    ) -> PolarsResult<GroupsIdx>
+        ensures ok { IfOk result (λ g. g ≡ record { pairs = pairs_of (flat_map (λ part. part.items) parts.items); form = Idx; flagged = false }) }
+        ensures err { IfErr result IsNoMemory }
+    {
+        let count = count_items(&parts)?;
+        let mut first = Vec::with_capacity(alloc, count)?;
+        let mut all = Vec::with_capacity(alloc, count)?;
+        for part in parts {
+            push_items(&mut first, &mut all, part);
+        }
+        Ok(GroupsIdx::new(first, all, false))
+    }
+
+    /// The groups as items, in order.
+    pub fn into_items(self) -> PolarsResult<Vec<IdxItem>>
+        ensures ok { IfOk result (λ items. pairs_of items.items ≡ self.pairs) }
+        ensures err { IfErr result IsNoMemory }
+    {
+        let mut first = self.first;
+        let mut all = self.all;
+        Ok(take_items(&mut first, &mut all)?)
     }
 
     /// Whether no row stands before a smaller one, as `new` asks of groups that are flagged as sorted.
@@ -112,10 +157,81 @@ impl GroupsIdx {
         GroupsIdxIter::new(self.first.as_slice(), self.all.as_slice())
     }
 
+    /// Puts the groups in the order of their first rows. Groups of one first row keep their order.
+    pub fn sort(&mut self) -> PolarsResult<()>
+        ensures sorted { OnOk result (IsByFirst self.old.pairs self.new.pairs) }
+        ensures flagged { OnOk result (self.new.flagged ≡ true) }
+        ensures form { self.new.form ≡ self.old.form }
+        ensures known { IsTrue self.old.flagged → self.new ≡ self.old }
+        ensures unchanged { OnErr result (self.new ≡ self.old) }
+        ensures err { IfErr result IsNoMemory }
+    {
+        if self.sorted {
+            return Ok(());
+        }
+        let mut items = take_items(&mut self.first, &mut self.all)?;
+        let sorted = items.sort_by_key(|item| item.0);
+        push_items(&mut self.first, &mut self.all, items);
+        sorted?;
+        self.sorted = true;
+        Ok(())
+    }
+
     /// Whether the first rows are known to ascend.
     pub fn is_sorted_flag(&self) -> bool
         ensures { result ≡ self.now.flagged }
     {
         self.sorted
+    }
+}
+
+#[cfg(test)]
+mod tests {
+    use super::*;
+    use crate::groups_type::GroupsType;
+    use std::process::Abort;
+    use std::test::Fail;
+
+    // Groups of one row each: the first row that they are told to have, and the row.
+    fn items(alloc: Global, pairs: &[(u32, u32)]) -> Result<Vec<IdxItem>, Fail> {
+        let mut items: Vec<IdxItem> = Vec::new(alloc);
+        for (first, row) in pairs {
+            items.push((*first, SmallVec::from_slice(alloc, &[*row])?))?;
+        }
+        Ok(items)
+    }
+
+    fn expect_pairs<R: Abort>(rt: &R, groups: &GroupsIdx, pairs: &[(u32, u32)]) {
+        assert_eq!(rt; groups.len(), pairs.len());
+        for ((first, rows), pair) in groups.iter().zip(pairs.iter()) {
+            assert_eq!(rt; first, pair.0);
+            assert_eq!(rt; rows.as_slice(), [pair.1].as_slice());
+        }
+    }
+
+    #[test]
+    fn groups_of_one_first_row_keep_their_order(rt: HostRuntime) -> Result<(), Fail> {
+        let alloc = rt.alloc();
+        let pool = Pool::new(1, 1, 1, 1, 0);
+        let given = [(2, 0), (1, 1), (2, 2), (0, 3), (1, 4)];
+        let joined = [(2, 0), (1, 1), (2, 2), (0, 3), (1, 4), (0, 5), (2, 6)];
+        let sorted = [(0, 3), (0, 5), (1, 1), (1, 4), (2, 0), (2, 2), (2, 6)];
+
+        let groups = GroupsIdx::from_items(alloc, items(alloc, &given)?)?;
+        expect_pairs(&rt, &groups, &given);
+        let mut parts = Vec::new(alloc);
+        parts.push(groups.into_items()?)?;
+        parts.push(Vec::new(alloc))?;
+        parts.push(items(alloc, &[(0, 5), (2, 6)])?)?;
+        let mut groups = GroupsIdx::from_parts(alloc, parts, &pool)?;
+        assert!(rt; !groups.is_sorted_flag());
+        expect_pairs(&rt, &groups, &joined);
+        groups.sort()?;
+        assert!(rt; groups.is_sorted_flag());
+        expect_pairs(&rt, &groups, &sorted);
+        let mut groups = GroupsType::from(groups);
+        groups.sort()?;
+        expect_pairs(&rt, groups.unwrap_idx(), &sorted);
+        Ok(())
     }
 }

@@ -1,7 +1,9 @@
-ghost use Rattle.std.specs.Prelude.{◌≡◌, ◌<◌, ◌==◌, [], length, slice_index_or};
+ghost use Rattle.std.specs.Prelude.{◌≡◌, ◌<◌, ◌==◌, [], length, slice_index_or, IsTrue, true, IfErr, OnOk, OnErr};
+ghost use Rattle.gb_cols.specs.PlSmallStr.{IsNoMemory};
 
 use crate::groups_idx::{BorrowIdxItem, GroupsIdx};
 use crate::iter::GroupsTypeIter;
+use gb_cols::error::PolarsResult;
 
 /// Groups in the form that the path to them gave.
 #[derive(Drop)]
@@ -56,6 +58,7 @@ impl From<GroupsIdx> for GroupsType {
 impl GroupsType {
     ghost use Rattle.gb_groups.specs.GroupsType.{groups_of};
     ghost use Rattle.gb_groups.specs.GroupsIndicator.{pair_of};
+    ghost use Rattle.gb_groups.specs.Order.{IsByFirst};
 
     /// How many groups there are.
     pub fn len(&self) -> usize
@@ -97,6 +100,20 @@ impl GroupsType {
     {
         match self {
             GroupsType::Idx(groups) => GroupsTypeIter::over_lists(groups.iter()),
+        }
+    }
+
+    /// Puts the groups in the order of their first rows. Groups of one first row keep their order.
+    pub fn sort(&mut self) -> PolarsResult<()>
+        ensures sorted { OnOk result (IsByFirst (groups_of self.old).pairs (groups_of self.new).pairs) }
+        ensures flagged { OnOk result ((groups_of self.new).flagged ≡ true) }
+        ensures form { (groups_of self.new).form ≡ (groups_of self.old).form }
+        ensures known { IsTrue (groups_of self.old).flagged → groups_of self.new ≡ groups_of self.old }
+        ensures unchanged { OnErr result (groups_of self.new ≡ groups_of self.old) }
+        ensures err { IfErr result IsNoMemory }
+    {
+        match self {
+            GroupsType::Idx(groups) => groups.sort(),
         }
     }
 

@@ -4,4 +4,5 @@
 
 pub mod groups_idx;
 pub mod groups_type;
+mod items;
 pub mod iter;

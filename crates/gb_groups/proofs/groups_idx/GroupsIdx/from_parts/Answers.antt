@@ -1,0 +1,42 @@
+use Rattle.std.proofs.Common.{◌≡◌, ℕ, List, false, length, sym, ap, ◌∙◌, arith}
+use Rattle.std.specs.List.{flat_map}
+use Rattle.std.proofs.lemmas.List.{length-map, map-id}
+use Rattle.std.proofs.lemmas.Iterator.Adapters.{YieldsList-from_vec}
+use Rattle.std.proofs.lemmas.Iterator.Consumers.{YieldsList-so_far, YieldsList-turn, YieldsList-end}
+use Rattle.gb_defs.specs.Groups.{Grouping, Idx}
+use Rattle.gb_groups.proofs.ItemLemmas.{apart}
+use Rattle.gb_groups.proofs.PartLemmas.{joined_room}
+use Rattle.gb_groups.proofs.groups_idx.GroupsIdx.from_parts.Goals as goal
+
+abbrev unsorted : List (ℕ × List ℕ) → Grouping
+unsorted pairs = record { pairs = pairs; form = Idx; flagged = false }
+
+pub push_items-requires-clause-first_room : goal.push_items-requires-clause-first_room
+push_items-requires-clause-first_room c =
+    let gives = c.into_iter-part-iterator.ensures.into_iter_gives in
+    let road = YieldsList-from_vec c.args.parts.items gives.0 (gives.1 ∙ c.args.parts.ok.0) in
+    let so_far = YieldsList-so_far road c.loop-part.yielded _ c.loop-part.yielded_by in
+    let turn = YieldsList-turn road c.loop-part.yielded _ c.loop-part.yielded_by _ c.next.new.self c.in-Some.part c.in-Some.is c.next.ensures.steps in
+    let room = joined_room (λ part. part.items) c.args.parts.items c.loop-part.yielded c.in-Some.part so_far turn.0 turn.1 in
+    let counted = rw c.deref.ensures.value at c.in_ok-count.ensures.ok in
+    let long = ap length c.loop-part.invariant.firsts ∙ length-map (flat_map (λ part. part.items) c.loop-part.yielded) _ in
+    omega (arith, room, counted, long)
+
+pub push_items-requires-clause-all_room : goal.push_items-requires-clause-all_room
+push_items-requires-clause-all_room c =
+    let gives = c.into_iter-part-iterator.ensures.into_iter_gives in
+    let road = YieldsList-from_vec c.args.parts.items gives.0 (gives.1 ∙ c.args.parts.ok.0) in
+    let so_far = YieldsList-so_far road c.loop-part.yielded _ c.loop-part.yielded_by in
+    let turn = YieldsList-turn road c.loop-part.yielded _ c.loop-part.yielded_by _ c.next.new.self c.in-Some.part c.in-Some.is c.next.ensures.steps in
+    let room = joined_room (λ part. part.items) c.args.parts.items c.loop-part.yielded c.in-Some.part so_far turn.0 turn.1 in
+    let counted = rw c.deref.ensures.value at c.in_ok-count.ensures.ok in
+    let long = ap length c.loop-part.invariant.lists ∙ length-map (flat_map (λ part. part.items) c.loop-part.yielded) _ in
+    omega (arith, room, counted, long)
+
+pub returns-clause-ok : goal.returns-clause-ok
+returns-clause-ok c =
+    let gives = c.into_iter-part-iterator.ensures.into_iter_gives in
+    let road = YieldsList-from_vec c.args.parts.items gives.0 (gives.1 ∙ c.args.parts.ok.0) in
+    let end = YieldsList-end road c.loop-part.yielded _ c.loop-part.yielded_by _ c.next.new.self c.in-None.is c.next.ensures.steps in
+    let all : c.loop-part.yielded ≡ c.args.parts.items = sym (map-id c.loop-part.yielded) ∙ end.0 in
+    c.new.ensures ∙ ap unsorted (rw (c.loop-part.invariant.firsts, c.loop-part.invariant.lists, all) (apart (flat_map (λ part. part.items) c.args.parts.items)))

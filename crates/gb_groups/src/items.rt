@@ -1,0 +1,65 @@
+//! Groups as first rows and row lists apart, and as items. Row lists are moved, never copied.
+
+ghost use Rattle.std.specs.Prelude.{◌≡◌, ◌+◌, ◌≤◌, [], ◌++◌, length, map, zip, IfOk, IfErr, OnOk, OnErr};
+ghost use Rattle.std.specs.List.{flat_map};
+ghost use Rattle.std.specs.Vec.{vec_capacity};
+ghost use Rattle.gb_cols.specs.PlSmallStr.{IsNoMemory};
+ghost use Rattle.gb_groups.specs.Groups.{lists_of, pairs_of};
+
+use crate::groups_idx::{IdxItem, IdxSize, IdxVec};
+use gb_cols::error::{PolarsError, PolarsResult};
+use smallvec::SmallVec;
+use std::alloc::AllocError;
+use std::mem;
+
+/// Moves the items to the ends of both vectors.
+pub(crate) fn push_items(first: &mut Vec<IdxSize>, all: &mut Vec<IdxVec>, items: Vec<IdxItem>)
+    requires first_room { length first.old.items + length items.items ≤ vec_capacity first.old }
+    requires all_room { length all.old.items + length items.items ≤ vec_capacity all.old }
+    ensures first_rows { first.new.items ≡ first.old.items ++ map (λ item. item.0) items.items }
+    ensures lists { all.new.items ≡ all.old.items ++ map (λ item. item.1) items.items }
+    ensures first_capacity { vec_capacity first.new ≡ vec_capacity first.old }
+    ensures all_capacity { vec_capacity all.new ≡ vec_capacity all.old }
+{
+    for (row, rows) in items {
+        first.push_reserved(row);
+        all.push_reserved(rows);
+    }
+}
+
+/// How many items the parts have. More than a `usize` counts are more than memory holds.
+pub(crate) fn count_items(parts: &[Vec<IdxItem>]) -> PolarsResult<usize>
+    ensures ok { IfOk result (λ count. count ≡ length (flat_map (λ part. part.items) parts.now)) }
+    ensures err { IfErr result IsNoMemory }
+{
+    let mut count = 0usize;
+    for part in parts {
+        count = count.checked_add(part.len()).ok_or(PolarsError::NoMemory)?;
+    }
+    Ok(count)
+}
+
+/// Moves all groups out of both vectors, which keep their room.
+pub(crate) fn take_items(
+    first: &mut Vec<IdxSize>,
+    all: &mut Vec<IdxVec>,
+) -> Result<Vec<IdxItem>, AllocError>
+    requires { length first.old.items ≡ length all.old.items }
+    ensures ok { IfOk result (λ items. pairs_of items.items ≡ zip first.old.items (lists_of all.old.items)) }
+    ensures count { IfOk result (λ items. length items.items ≡ length first.old.items) }
+    ensures first_empty { OnOk result (first.new.items ≡ []) }
+    ensures all_empty { OnOk result (all.new.items ≡ []) }
+    ensures first_capacity { vec_capacity first.new ≡ vec_capacity first.old }
+    ensures all_capacity { vec_capacity all.new ≡ vec_capacity all.old }
+    ensures first_kept { OnErr result (first.new.items ≡ first.old.items) }
+    ensures all_kept { OnErr result (all.new.items ≡ all.old.items) }
+{
+    let alloc = *first.allocator();
+    let mut items = Vec::with_capacity(alloc, first.len())?;
+    for (place, rows) in all.iter_mut().enumerate() {
+        items.push_reserved((first[place], mem::replace(rows, SmallVec::new(alloc))));
+    }
+    first.clear();
+    all.clear();
+    Ok(items)
+}
