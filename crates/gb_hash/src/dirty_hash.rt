@@ -20,7 +20,7 @@ pub trait DirtyHash {
 
 // The hash so far, with one more word.
 #[inline]
-fn with_word<M: Mixer>(mixer: &M, hash: u64, word: u64) -> u64
+pub(crate) fn with_word<M: Mixer>(mixer: &M, hash: u64, word: u64) -> u64
     ensures { result ≡ fold_word (M.mix_of mixer.now) hash word }
 {
     mixer.mix(hash ^ mixer.mix(word))

@@ -3,11 +3,14 @@
 //! joined with another, or picks one of several partitions.
 #![tactic(auto)]
 
+pub mod byte_hash;
+pub mod byte_rows;
 pub mod combine;
 pub mod dirty_hash;
 pub mod id_hasher;
 pub mod key_rows;
 pub mod mixer;
+pub mod num_rows;
 pub mod steps;
 #[cfg(test)]
 mod tests;

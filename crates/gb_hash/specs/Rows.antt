@@ -1,0 +1,30 @@
+-- Keys stand for slots, and slots have hashes.
+use Rattle.std.specs.Prelude.{◌≡◌, ℕ, ℤ, Bool, List, Option, None, Some, refl, nat_eq}
+use Rattle.std.specs.Bool.{Decides}
+use Rattle.std.specs.Borrow.{Bor}
+use Rattle.std.specs.Option.{option_eq}
+use Rattle.std.specs.Cmp.Lexicographic.{pointwise, bytes_decides}
+use Rattle.std.specs.Int.{Width}
+use Rattle.std.proofs.Common.{ap}
+use Rattle.gb_defs.specs.Slot.{Slot, Nil, Num, Bytes, Items}
+use Rattle.gb_defs.specs.Hash.{hash_of}
+use Rattle.gb_cols.specs.Array.{number_slot_of, text_slot}
+
+-- numbers, equal where they are one, with a null apart
+pub numbers_decide : {N : Type 0} (eq : N → N → Bool) (number : N → ℤ) → ((a b : N) → Decides (eq a b) (number a ≡ number b)) →
+    (a b : Option N) → Decides (option_eq eq a b) (number_slot_of number a ≡ number_slot_of number b)
+numbers_decide eq number d None None = (λ _. refl, λ _. refl)
+numbers_decide eq number d None (Some b) = (λ e. cc, λ e. cc)
+numbers_decide eq number d (Some a) None = (λ e. cc, λ e. cc)
+numbers_decide eq number d (Some a) (Some b) = (λ e. ap (λ n. Num n) ((d a b).0 e), λ e. (d a b).1 (cc))
+
+-- texts, equal where their bytes are, with a null apart
+pub texts_decide : (a b : Option (Bor (List ℕ))) → Decides (option_eq (λ x y. pointwise nat_eq x.now y.now) a b) (text_slot a ≡ text_slot b)
+texts_decide None None = (λ _. refl, λ _. refl)
+texts_decide None (Some b) = (λ e. cc, λ e. cc)
+texts_decide (Some a) None = (λ e. cc, λ e. cc)
+texts_decide (Some a) (Some b) = (λ e. ap (λ bytes. Bytes bytes) ((bytes_decides a.now b.now).0 e), λ e. (bytes_decides a.now b.now).1 (cc))
+
+-- one slot has one hash
+pub one_hash : (width : Width) (seed : ℕ) (mix : ℕ → ℕ) (a b : Slot) → a ≡ b → hash_of width seed mix a ≡ hash_of width seed mix b
+one_hash width seed mix a b e = ap (hash_of width seed mix) e

@@ -1,0 +1,70 @@
+//! The rows of a column of texts.
+
+ghost use Rattle.std.specs.Prelude.{◌≡◌, ℕ, length};
+ghost use Rattle.std.specs.Int.{w64};
+ghost use Rattle.gb_defs.specs.Slot.{slot_at};
+ghost use Rattle.gb_defs.specs.Hash.{hash_of};
+ghost use Rattle.gb_cols.specs.Array.{text_slot};
+ghost use Rattle.gb_hash.specs.Rows.{texts_decide, one_hash};
+
+use crate::byte_hash::{hash_null, hash_text};
+use crate::key_rows::KeyRows;
+use crate::mixer::Mixer;
+use crate::steps::Steps;
+use gb_cols::chunked::StringChunked;
+use std::sync::ledger::Ledger;
+
+/// The rows of a column of texts, with its texts as keys. A text's hash is that of its bytes.
+pub struct ByteRows<'a, M: Mixer> {
+    pub column: &'a StringChunked,
+    pub mixer: M,
+}
+
+impl<'a, M: Mixer> ByteRows<'a, M> {
+    pub fn new(column: &'a StringChunked, mixer: M) -> Self
+        ensures column { result.column.now ≡ column.now }
+        ensures mixer { result.mixer ≡ mixer }
+    {
+        ByteRows { column, mixer }
+    }
+}
+
+impl<'a, M: Mixer + Sync> KeyRows for ByteRows<'a, M> {
+    type Key = Option<&'a str>;
+
+    ghost row_count = { λ rows. length rows.column.now.slots };
+
+    ghost slot = { λ rows i. slot_at rows.column.now.slots i };
+
+    ghost row_hash = { λ rows i. hash_of w64 (M.seed_of rows.mixer) (M.mix_of rows.mixer) (slot_at rows.column.now.slots i) };
+
+    ghost key_slot = { text_slot };
+
+    ghost keys_decide = { texts_decide };
+
+    ghost hashes_alike = { λ rows i j _ _ e. one_hash w64 (M.seed_of rows.mixer) (M.mix_of rows.mixer) _ _ e };
+
+    fn len(&self) -> usize {
+        self.column.len()
+    }
+
+    fn key_at<L: Ledger>(&self, i: usize, steps: &mut Steps<L>) -> Option<&'a str> {
+        steps.tick();
+        self.column.get(i)
+    }
+
+    fn hash_at(&self, i: usize) -> u64 {
+        hash_option(&self.mixer, self.column.get(i))
+    }
+}
+
+// The hash of a text, or that of null.
+#[inline]
+fn hash_option<M: Mixer>(mixer: &M, text: Option<&str>) -> u64
+    ensures { result ≡ hash_of w64 (M.seed_of mixer.now) (M.mix_of mixer.now) (text_slot text.entry) }
+{
+    match text {
+        None => hash_null(mixer),
+        Some(text) => hash_text(mixer, text.as_bytes()),
+    }
+}
