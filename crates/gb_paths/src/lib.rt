@@ -3,5 +3,6 @@
 #![tactic(auto)]
 
 pub mod group_by;
+pub mod into_groups;
 mod row_lists;
 mod row_numbers;
