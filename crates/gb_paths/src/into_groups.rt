@@ -190,4 +190,21 @@ mod tests {
         )?;
         Ok(())
     }
+
+    #[test]
+    fn equal_numbers_are_a_group(rt: HostRuntime) -> Result<(), Fail> {
+        let alloc = rt.alloc();
+        let pool = Pool::new(1, 1, 1, 1, 0);
+        let name = PlSmallStr::from_str(alloc, "key")?;
+        let numbers = [Some(-3), None, Some(-3), None];
+        let column = Series::Int64(Int64Chunked::from_slice_options(alloc, name, &numbers)?);
+        let groups = column.group_tuples(&rt, false, false, &pool)?;
+        assert!(rt; !groups.is_sorted_flag());
+        assert_eq!(rt; groups.unwrap_idx().first(), [0, 1].as_slice());
+        let name = PlSmallStr::from_str(alloc, "key")?;
+        let column = UInt32Chunked::from_slice(alloc, name, &[7, 8, 7])?;
+        let groups = column.group_tuples(&rt, false, true, &pool)?;
+        assert_eq!(rt; groups.unwrap_idx().first(), [0, 1].as_slice());
+        Ok(())
+    }
 }

@@ -12,7 +12,7 @@ use Rattle.gb_defs.specs.Classes.{class, firsts, groups, rows_below, same_slot}
 use Rattle.gb_defs.specs.Fold.{Method, fold_of}
 use Rattle.gb_defs.specs.Answer.{aggregated, answer_name, answer_names, height_of, slots_in, type_in}
 use Rattle.gb_defs.specs.Fault.{Fault, ColumnNotFound, Operation, duplicate_of, fault, is_groups, missing_fault, rows_fault, unfit_at, unfit_fault, unfit_or}
-use Rattle.gb_defs.specs.Outcome.{Report, find_columns, is_text, outcome_by_keys}
+use Rattle.gb_defs.specs.Outcome.{Report, find_columns, outcome_by_keys}
 use Rattle.gb_defs.specs.Text.{frame_text}
 use Rattle.gb_defs.proofs.AnswerLemmas.{answer_one, faulty, groups_firsts, groups_lists, reported}
 use Rattle.gb_defs.proofs.ClassesLemmas.{firsts_below, firsts_few, rows_below_all}
@@ -234,12 +234,12 @@ module _ (frame : Frame) (name : List ℕ) (key : ColumnValue) (found : find_col
       rows ≡ map (λ (p : ℕ × List ℕ). p.0) (groups (same_slot key.slots) (rows_below (length key.slots))) →
       lists ≡ map (λ (p : ℕ × List ℕ). p.1) (groups (same_slot key.slots) (rows_below (length key.slots))) →
       map content columns ≡ key_part key rows ∷ map (λ agg. aggregated agg (find_column frame agg.0) lists) aggs →
-      is_text key.dtype ≡ true → fault frame (key ∷ []) aggs ≡ None →
+      fault frame (key ∷ []) aggs ≡ None →
       (null_word : List ℕ) → outcome_by_keys frame aggs null_word (find_columns frame (name ∷ [])) ≡ Report (frame_text (map content columns) null_word)
-  answered rows lists columns rows_are lists_are columns_are is none null_word =
+  answered rows lists columns rows_are lists_are columns_are none null_word =
       let agree = same_slot key.slots in
       let below = rows_below (length key.slots) in
-      reported frame aggs null_word name key found is none
+      reported frame aggs null_word name key found none
       ∙ ap (λ cs. Report (frame_text cs null_word)) (answer_one frame key key_high aggs
       ∙ ap (λ rows. key_part key rows ∷ map (λ agg. aggregated agg (find_column frame agg.0) (map (class agree below) (firsts agree below))) aggs) (sym (rows_are ∙ groups_firsts agree below))
       ∙ ap (λ lists. key_part key rows ∷ map (λ agg. aggregated agg (find_column frame agg.0) lists) aggs) (sym (lists_are ∙ groups_lists agree below))

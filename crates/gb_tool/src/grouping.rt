@@ -1,11 +1,11 @@
 //! From a frame to the frame of its groups: one row for each class of rows whose keys agree.
 
-ghost use Rattle.std.specs.Prelude.{◌≡◌, ℕ, ◌<◌, ◌^◌, List, [], ◌∷◌, map, length, All, None, true, false, is_none, IfOk, IfErr, OnOk};
+ghost use Rattle.std.specs.Prelude.{◌≡◌, ℕ, ◌<◌, ◌^◌, List, [], ◌∷◌, map, length, All, None, false, is_none, IfOk, IfErr, OnOk};
 ghost use Rattle.std.specs.Thread.{IsSync};
 ghost use Rattle.gb_defs.specs.Column.{ColumnValue, IsFrame, content, find_column, frame_height};
 ghost use Rattle.gb_defs.specs.Fault.{rows_fault, missing_fault, unfit_at, unfit_fault, unfit_or};
 ghost use Rattle.gb_defs.specs.Answer.{aggregated};
-ghost use Rattle.gb_defs.specs.Outcome.{Report, is_text, find_columns, outcome_by_keys};
+ghost use Rattle.gb_defs.specs.Outcome.{Report, find_columns, outcome_by_keys};
 ghost use Rattle.gb_defs.specs.Text.{frame_text};
 ghost use Rattle.gb_cols.specs.PolarsError.{Explains};
 ghost use Rattle.gb_cols.specs.PlSmallStr.{text_of};
@@ -17,7 +17,6 @@ ghost use Rattle.gb_tool.specs.Request.{agg_of, aggs_of, method_of};
 
 use crate::folds::aggregate;
 use crate::request::Agg;
-use gb_cols::chunked::StringChunked;
 use gb_cols::error::{PolarsError, PolarsResult};
 use gb_cols::pool::Pool;
 use gb_cols::small_str::PlSmallStr;
@@ -28,8 +27,7 @@ use gb_series::series::Series;
 use std::alloc::Global;
 use std::thread::Threads;
 
-/// The key at the first row of each group, and the aggregates over its rows. Today the key is a column
-/// of texts.
+/// The key at the first row of each group, and the aggregates over its rows.
 pub fn group_frame<R: Threads + Sync>(
     rt: &R,
     alloc: Global,
@@ -43,24 +41,12 @@ pub fn group_frame<R: Threads + Sync>(
     ensures err { IfErr result (λ e. (null_word : List ℕ) → IsRefusal e (outcome_by_keys frame.now (aggs_of aggs.now) null_word (find_columns frame.now (text_of by.now ∷ [])))) }
 {
     let key = frame.column(by.as_str())?;
-    let texts = text_key(key)?;
     check_height(frame)?;
     check_columns(frame, aggs)?;
-    let groups = texts.group_tuples(rt, false, true, pool)?;
+    let groups = key.group_tuples(rt, false, true, pool)?;
     let groups = groups.unwrap_idx();
     let columns = answer_columns(alloc, frame, key, aggs, groups.first(), groups.all())?;
     DataFrame::new(columns)
-}
-
-// The texts of the key.
-fn text_key(key: &Series) -> PolarsResult<&StringChunked>
-    ensures ok { IfOk result (λ texts. (texts.now ≡ value_of key.now) × (is_text (value_of key.now).dtype ≡ true)) }
-    ensures err { IfErr result (λ _. is_text (value_of key.now).dtype ≡ false) }
-{
-    match key.try_str() {
-        Some(texts) => Ok(texts),
-        None => Err(PolarsError::SchemaMismatch(key.name().try_clone()?)),
-    }
 }
 
 // That rows have numbers.

@@ -31,12 +31,12 @@ pub group_tuples-requires-clause-few : goal.group_tuples-requires-clause-few
 group_tuples-requires-clause-few g c =
     let found = rw c.as_str.ensures at c.in_ok-key.ensures.ok in
     let long = key_long c.args.frame.now (text_of c.args.by.now) (value_of c.in_ok-key.key.now) found c.check_height.ensures.frame (aggs_of c.args.aggs.now) in
-    rw c.in_ok-texts.ensures.ok.0 (subst (λ (n : ℕ). n < 4294967296) (sym long) c.in_ok-check_height.ensures.ok)
+    subst (λ (n : ℕ). n < 4294967296) (sym long) c.in_ok-check_height.ensures.ok
 
 pub answer_columns-requires-clause-firsts : goal.answer_columns-requires-clause-firsts
 answer_columns-requires-clause-firsts g c =
     let key = value_of c.in_ok-key.key.now in
-    let pairs = ap (λ g. g.pairs) (c.unwrap_idx-groups.ensures ∙ c.in_ok-groups.ensures.ok) ∙ ap (λ (k : ColumnValue). groups (same_slot k.slots) (rows_below (length k.slots))) c.in_ok-texts.ensures.ok.0 in
+    let pairs = ap (λ g. g.pairs) (c.unwrap_idx-groups.ensures ∙ c.in_ok-groups.ensures.ok) in
     let rows_are = c.first.ensures ∙ ap (map (λ (p : ℕ × List ℕ). p.0)) pairs in
     rw rows_are (firsts_within (same_slot key.slots) (length key.slots))
 
@@ -45,7 +45,7 @@ answer_columns-requires-clause-rows g c =
     let key = value_of c.in_ok-key.key.now in
     let found = rw c.as_str.ensures at c.in_ok-key.ensures.ok in
     let long = key_long c.args.frame.now (text_of c.args.by.now) key found c.check_height.ensures.frame (aggs_of c.args.aggs.now) in
-    let pairs = ap (λ g. g.pairs) (c.unwrap_idx-groups.ensures ∙ c.in_ok-groups.ensures.ok) ∙ ap (λ (k : ColumnValue). groups (same_slot k.slots) (rows_below (length k.slots))) c.in_ok-texts.ensures.ok.0 in
+    let pairs = ap (λ g. g.pairs) (c.unwrap_idx-groups.ensures ∙ c.in_ok-groups.ensures.ok) in
     let lists_are = c.all.ensures ∙ ap (map (λ (p : ℕ × List ℕ). p.1)) pairs in
     rw (lists_are, ← long) (lists_rows (same_slot key.slots) (length key.slots))
 
@@ -54,7 +54,7 @@ answer_columns-requires-clause-few g c =
     let key = value_of c.in_ok-key.key.now in
     let found = rw c.as_str.ensures at c.in_ok-key.ensures.ok in
     let long = key_long c.args.frame.now (text_of c.args.by.now) key found c.check_height.ensures.frame (aggs_of c.args.aggs.now) in
-    let pairs = ap (λ g. g.pairs) (c.unwrap_idx-groups.ensures ∙ c.in_ok-groups.ensures.ok) ∙ ap (λ (k : ColumnValue). groups (same_slot k.slots) (rows_below (length k.slots))) c.in_ok-texts.ensures.ok.0 in
+    let pairs = ap (λ g. g.pairs) (c.unwrap_idx-groups.ensures ∙ c.in_ok-groups.ensures.ok) in
     let lists_are = c.all.ensures ∙ ap (map (λ (p : ℕ × List ℕ). p.1)) pairs in
     omega (arith, length-map c.all.result.now (λ (v : SmallVec ℕ). v.items), ap (λ (xs : List (List ℕ)). length xs) lists_are, lists_few (same_slot key.slots) (length key.slots), long, c.in_ok-check_height.ensures.ok)
 
@@ -72,7 +72,7 @@ returns-clause-ok g c =
     let aggs = aggs_of c.args.aggs.now in
     let key = value_of c.in_ok-key.key.now in
     let found = rw c.as_str.ensures at c.in_ok-key.ensures.ok in
-    let pairs = ap (λ g. g.pairs) (c.unwrap_idx-groups.ensures ∙ c.in_ok-groups.ensures.ok) ∙ ap (λ (k : ColumnValue). groups (same_slot k.slots) (rows_below (length k.slots))) c.in_ok-texts.ensures.ok.0 in
+    let pairs = ap (λ g. g.pairs) (c.unwrap_idx-groups.ensures ∙ c.in_ok-groups.ensures.ok) in
     let rows_are = c.first.ensures ∙ ap (map (λ (p : ℕ × List ℕ). p.0)) pairs in
     let lists_are = c.all.ensures ∙ ap (map (λ (p : ℕ × List ℕ). p.1)) pairs in
     let same : length c.first.result.now ≡ length (lists_of c.all.result.now) =
@@ -82,7 +82,7 @@ returns-clause-ok g c =
     let columns_are = map-map content value_of c.in_ok-columns.columns.items ∙ c.in_ok-columns.ensures.ok in
     let named = fault_named frame name key found c.check_height.ensures.frame aggs c.in_ok-check_height.ensures.ok c.in_ok-check_columns.ensures.ok c.in_ok-columns.ensures.fits in
     IfOk-weaker c.new.result _ _ (λ answer h null_word.
-    rw h.0 (answered frame name key found c.check_height.ensures.frame aggs c.first.result.now (lists_of c.all.result.now) columns rows_are lists_are columns_are c.in_ok-texts.ensures.ok.1
+    rw h.0 (answered frame name key found c.check_height.ensures.frame aggs c.first.result.now (lists_of c.all.result.now) columns rows_are lists_are columns_are
     (named ∙ sym (parts_fault frame key c.first.result.now (lists_of c.all.result.now) same aggs columns columns_are) ∙ h.1) null_word))
     c.new.ensures.ok
 
@@ -93,7 +93,7 @@ returns-clause-err g c =
     let aggs = aggs_of c.args.aggs.now in
     let key = value_of c.in_ok-key.key.now in
     let found = rw c.as_str.ensures at c.in_ok-key.ensures.ok in
-    let pairs = ap (λ g. g.pairs) (c.unwrap_idx-groups.ensures ∙ c.in_ok-groups.ensures.ok) ∙ ap (λ (k : ColumnValue). groups (same_slot k.slots) (rows_below (length k.slots))) c.in_ok-texts.ensures.ok.0 in
+    let pairs = ap (λ g. g.pairs) (c.unwrap_idx-groups.ensures ∙ c.in_ok-groups.ensures.ok) in
     let rows_are = c.first.ensures ∙ ap (map (λ (p : ℕ × List ℕ). p.0)) pairs in
     let lists_are = c.all.ensures ∙ ap (map (λ (p : ℕ × List ℕ). p.1)) pairs in
     let same : length c.first.result.now ≡ length (lists_of c.all.result.now) =
