@@ -15,6 +15,7 @@ use gb_cols::chunked::StringChunked;
 use std::sync::ledger::Ledger;
 
 /// The rows of a column of texts, with its texts as keys. A text's hash is that of its bytes.
+#[derive(Drop)]
 pub struct ByteRows<'a, M: Mixer> {
     pub column: &'a StringChunked,
     pub mixer: M,

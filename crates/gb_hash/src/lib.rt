@@ -11,6 +11,8 @@ pub mod id_hasher;
 pub mod key_rows;
 pub mod mixer;
 pub mod num_rows;
+#[cfg(test)]
+mod row_tests;
 pub mod steps;
 #[cfg(test)]
 mod tests;

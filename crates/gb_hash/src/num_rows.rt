@@ -46,6 +46,7 @@ impl HashNumericType for UInt32Type {
 }
 
 /// The rows of a column of numbers, with its numbers as keys.
+#[derive(Drop)]
 pub struct NumRows<'a, T: HashNumericType, M: Mixer> {
     pub column: &'a ChunkedArray<PrimitiveArray<T>>,
     pub mixer: M,
