@@ -16,20 +16,15 @@ use std::test::Fail;
 fn rows_of_both_kinds(rt: HostRuntime) -> Result<(), Fail> {
     let alloc = rt.alloc();
     let mixer = SeedMixer::new(7);
-    let mut numbers = Int64Chunked::new(alloc, PlSmallStr::from_str(alloc, "n")?);
     let wanted_numbers = [Some(5), None, Some(-1), Some(5)];
-    for number in wanted_numbers {
-        if numbers.len() < 4 {
-            numbers.push(number)?;
-        }
-    }
-    let mut texts = StringChunked::new(alloc, PlSmallStr::from_str(alloc, "t")?);
+    let name = PlSmallStr::from_str(alloc, "n")?;
+    let numbers = Int64Chunked::from_slice_options(alloc, name, &wanted_numbers)?;
     let wanted_texts = [Some("eight by"), None, Some("eight bytes"), Some("a")];
-    for text in wanted_texts {
-        if texts.len() < 4 {
-            texts.push(text)?;
-        }
-    }
+    let mut texts = StringChunked::new(alloc, PlSmallStr::from_str(alloc, "t")?);
+    texts.push(wanted_texts[0])?;
+    texts.push(wanted_texts[1])?;
+    texts.push(wanted_texts[2])?;
+    texts.push(wanted_texts[3])?;
     let numbers = NumRows::new(&numbers, mixer);
     let texts = ByteRows::new(&texts, mixer);
     let null = 10369894495938295073;
