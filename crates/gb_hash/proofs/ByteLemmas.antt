@@ -1,6 +1,6 @@
 -- Words of eight bytes.
 use Rattle.std.proofs.Common.{arith, ap, ◌∙◌, sym}
-use Rattle.std.specs.Prelude.{◌≡◌, ◌<◌, ◌≤◌, ◌+◌, ℕ, zero, suc, List, [], ◌∷◌, ◌++◌, length, take, drop, replicate, get_or, refl}
+use Rattle.std.specs.Prelude.{◌≡◌, ◌<◌, ◌≤◌, ◌+◌, ℕ, zero, suc, List, [], ◌∷◌, length, take, drop, get_or, refl}
 use Rattle.std.specs.List.{fold}
 use Rattle.std.specs.Int.{w64, from_le_bytes, sum_through, byte_worth, div_ceil}
 use Rattle.std.proofs.lemmas.List.{get_or-take, length-drop}
@@ -36,10 +36,11 @@ words_none xs h =
     let none : div_ceil (length xs) 8 ≡ 0 = rw h refl in
     ap (λ n. words_from n xs) none
 
--- a hash with the first word of the bytes, and then the other words
-pub fold_more : (next : ℕ → ℕ → ℕ) (hash more word : ℕ) (rest first after : List ℕ) → first ≡ take 8 rest → after ≡ drop 8 rest → length after + 8 ≡ length rest
-    → word ≡ from_le_bytes w64 first → more ≡ next hash word → fold next more (words_of after) ≡ fold next hash (words_of rest)
-fold_more next hash more word rest first after f a l w m =
+-- the first word of the bytes into the hash, and then the other words
+pub fold_more : (next : ℕ → ℕ → ℕ) (hash more word all : ℕ) (rest first after : List ℕ) → first ≡ take 8 rest → after ≡ drop 8 rest → length after + 8 ≡ length rest
+    → word ≡ from_le_bytes w64 first → more ≡ next hash word → fold next hash (words_of rest) ≡ all → fold next more (words_of after) ≡ all
+fold_more next hash more word all rest first after f a l w m before =
     let long : 8 ≤ length rest = omega (arith, l) in
     let read : more ≡ next hash (from_le_bytes w64 (take 8 rest)) = m ∙ ap (next hash) (w ∙ ap (from_le_bytes w64) f) in
-    ap (λ n. fold next n (words_of after)) read ∙ ap (λ xs. fold next (next hash (from_le_bytes w64 (take 8 rest))) (words_of xs)) a ∙ sym (ap (fold next hash) (words_more rest long))
+    let behind : words_of after ≡ words_of (drop 8 rest) = ap words_of a in
+    rw (read, behind) (sym (ap (fold next hash) (words_more rest long)) ∙ before)

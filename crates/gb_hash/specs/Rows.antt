@@ -6,7 +6,7 @@ use Rattle.std.specs.Option.{option_eq}
 use Rattle.std.specs.Cmp.Lexicographic.{pointwise, bytes_decides}
 use Rattle.std.specs.Int.{Width}
 use Rattle.std.proofs.Common.{ap}
-use Rattle.gb_defs.specs.Slot.{Slot, Nil, Num, Bytes, Items}
+use Rattle.gb_defs.specs.Slot.{Slot, Num, Bytes}
 use Rattle.gb_defs.specs.Hash.{hash_of}
 use Rattle.gb_cols.specs.Array.{number_slot_of, text_slot}
 

@@ -1,6 +1,7 @@
-//! Hashes of whole numbers, and what is done with a hash. A hash follows from the number's bits, the
-//! seed and the mixing function of a mixer, so that equal numbers hash alike in every run. A hash is
-//! joined with another, or picks one of several partitions.
+//! Hashes of whole numbers and texts, and what is done with a hash. A hash follows from the bits, the
+//! seed and the mixing function of a mixer, so that equal values hash alike in every run. A hash is
+//! joined with another, or picks one of several partitions. The rows of a column have keys and hashes,
+//! and to read a key is one step, which is counted.
 #![tactic(auto)]
 
 pub mod byte_hash;
@@ -11,6 +12,8 @@ pub mod id_hasher;
 pub mod key_rows;
 pub mod mixer;
 pub mod num_rows;
+#[cfg(test)]
+mod row_tests;
 pub mod steps;
 #[cfg(test)]
 mod tests;
