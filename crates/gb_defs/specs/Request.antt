@@ -7,7 +7,7 @@ use Rattle.std.specs.List.{starts_with}
 use Rattle.gb_defs.specs.Cell.{is_numeral}
 use Rattle.gb_defs.specs.Fold.{Method, Sum, Count}
 
--- the options of the program, each with its default where the words do not give it
+-- the options of the program
 pub record ToolOptions : Type 0 where
   pub workers : ℕ
   pub partitions : ℕ
@@ -16,9 +16,6 @@ pub record ToolOptions : Type 0 where
   pub seed : ℕ
   pub null_word : List ℕ
   pub explain : Bool
-
-abbrev pub default_options : ToolOptions
-default_options = record { workers = 4; partitions = 4; piece = 4096; threshold = 1000; seed = 0; null_word = []; explain = false }
 
 pub data Request : Type 0 where
   -- the key columns, the aggregates with their columns, and the options
@@ -73,16 +70,26 @@ pub record Given : Type 0 where
 abbrev pub nothing : Given
 nothing = record { by = None; aggs = []; numbers = no_numbers; null_word = None; explain = false }
 
--- an option with its value; only `--agg` may come again
-unfoldable pub with_option : List ℕ → List ℕ → Given → Option Given
-with_option option word g =
-    if bytes_eq option (codes "--by") then option_map (λ v. record g { by = Some v }) (once g.by (Some word))
-    else if bytes_eq option (codes "--agg") then option_map (λ agg. record g { aggs = g.aggs ++ agg ∷ [] }) (agg_of word)
-    else if bytes_eq option (codes "--null") then option_map (λ v. record g { null_word = Some v }) (once g.null_word (Some word))
-    else option_map (λ n. record g { numbers = n }) (with_number option word g.numbers)
+abbrev pub with_key : List ℕ → Given → Option Given
+with_key word g = option_map (λ v. record g { by = Some v }) (once g.by (Some word))
+
+-- only aggregates may come again
+abbrev pub with_agg : List ℕ → Given → Option Given
+with_agg word g = option_map (λ agg. record g { aggs = g.aggs ++ agg ∷ [] }) (agg_of word)
+
+abbrev pub with_null_word : List ℕ → Given → Option Given
+with_null_word word g = option_map (λ v. record g { null_word = Some v }) (once g.null_word (Some word))
 
 abbrev pub with_explain : Given → Option Given
 with_explain g = if g.explain then None else Some (record g { explain = true })
+
+-- an option with its value
+unfoldable pub with_option : List ℕ → List ℕ → Given → Option Given
+with_option option word g =
+    if bytes_eq option (codes "--by") then with_key word g
+    else if bytes_eq option (codes "--agg") then with_agg word g
+    else if bytes_eq option (codes "--null") then with_null_word word g
+    else option_map (λ n. record g { numbers = n }) (with_number option word g.numbers)
 
 unfoldable pub given_from : List (List ℕ) → Given → Option Given
 given_from [] g = Some g
@@ -92,20 +99,23 @@ given_from (option ∷ word ∷ rest) g =
     else option_and_then (given_from rest) (with_option option word g)
 
 -- the defaults filled in; there are as many partitions as workers
-abbrev pub options_of : Given → ToolOptions
-options_of g =
-    let workers = unwrap_or g.numbers.workers 4 in record {
+abbrev pub options_of : Numbers → List ℕ → Bool → ToolOptions
+options_of n null_word explain =
+    let workers = unwrap_or n.workers 4 in record {
       workers = workers;
-      partitions = unwrap_or g.numbers.partitions workers;
-      piece = unwrap_or g.numbers.piece 4096;
-      threshold = unwrap_or g.numbers.threshold 1000;
-      seed = unwrap_or g.numbers.seed 0;
-      null_word = unwrap_or g.null_word [];
-      explain = g.explain;
+      partitions = unwrap_or n.partitions workers;
+      piece = unwrap_or n.piece 4096;
+      threshold = unwrap_or n.threshold 1000;
+      seed = unwrap_or n.seed 0;
+      null_word = null_word;
+      explain = explain;
     }
 
+abbrev pub default_options : ToolOptions
+default_options = options_of no_numbers [] false
+
 abbrev pub group_of : Given → Option Request
-group_of g = option_map (λ name. Group (name ∷ []) g.aggs (options_of g)) g.by
+group_of g = option_map (λ name. Group (name ∷ []) g.aggs (options_of g.numbers (unwrap_or g.null_word []) g.explain)) g.by
 
 unfoldable pub request : List (List ℕ) → Option Request
 request [] = None
