@@ -1,11 +1,13 @@
--- The request that the words of a command line spell.
-use Rattle.std.specs.Prelude.{ℕ, ◌&&◌, Bool, true, false, List, [], ◌∷◌, Option, Some, None, if◌then◌else◌, codes, drop}
+-- The request that the words of a command line spell: the command, and then options in any order, each
+-- but `--explain` followed by its value.
+use Rattle.std.specs.Prelude.{ℕ, nat_eq, nat_le, ◌&&◌, Bool, true, false, List, [], ◌∷◌, ◌++◌, length, drop, Option, Some, None, option_map, option_and_then, unwrap_or, if◌then◌else◌, codes}
 use Rattle.std.specs.Str.{bytes_eq}
+use Rattle.std.specs.Str.Parse.{digits_value}
 use Rattle.std.specs.List.{starts_with}
-use Rattle.std.specs.Prelude.{nat_eq}
+use Rattle.gb_defs.specs.Cell.{is_numeral}
 use Rattle.gb_defs.specs.Fold.{Method, Sum, Count}
 
--- the options of the program, each with its default where the words do not give it
+-- the options of the program
 pub record ToolOptions : Type 0 where
   pub workers : ℕ
   pub partitions : ℕ
@@ -14,9 +16,6 @@ pub record ToolOptions : Type 0 where
   pub seed : ℕ
   pub null_word : List ℕ
   pub explain : Bool
-
-abbrev pub default_options : ToolOptions
-default_options = record { workers = 4; partitions = 4; piece = 4096; threshold = 1000; seed = 0; null_word = []; explain = false }
 
 pub data Request : Type 0 where
   -- the key columns, the aggregates with their columns, and the options
@@ -29,24 +28,95 @@ agg_of word =
     else if starts_with nat_eq word (codes "count:") then Some (drop 6 word, Count true)
     else None
 
-abbrev pub agg_onto : Option (List ℕ × Method) → Option (List (List ℕ × Method)) → Option (List (List ℕ × Method))
-agg_onto None rest = None
-agg_onto (Some agg) None = None
-agg_onto (Some agg) (Some aggs) = Some (agg ∷ aggs)
+-- one to twenty decimal digits, in range
+unfoldable pub number_within : ℕ → ℕ → List ℕ → Option ℕ
+number_within least most word =
+    if is_numeral word && nat_le (length word) 20 && nat_le least (digits_value 10 word) && nat_le (digits_value 10 word) most
+    then Some (digits_value 10 word) else None
 
--- any number of `--agg METHOD:NAME`
-abbrev pub aggs_of : List (List ℕ) → Option (List (List ℕ × Method))
-aggs_of [] = Some []
-aggs_of (option ∷ []) = None
-aggs_of (option ∷ word ∷ rest) = if bytes_eq option (codes "--agg") then agg_onto (agg_of word) (aggs_of rest) else None
+-- the numbers that were given so far
+pub record Numbers : Type 0 where
+  pub workers : Option ℕ
+  pub partitions : Option ℕ
+  pub piece : Option ℕ
+  pub threshold : Option ℕ
+  pub seed : Option ℕ
 
-abbrev pub group_by : List ℕ → Option (List (List ℕ × Method)) → Option Request
-group_by name None = None
-group_by name (Some aggs) = Some (Group (name ∷ []) aggs default_options)
+abbrev pub no_numbers : Numbers
+no_numbers = record { workers = None; partitions = None; piece = None; threshold = None; seed = None }
 
--- `group --by NAME` and then the aggregates
+-- a value for what was not given before
+abbrev pub once : {A : Type 0} → Option A → Option A → Option A
+once None value = value
+once (Some before) value = None
+
+unfoldable pub with_number : List ℕ → List ℕ → Numbers → Option Numbers
+with_number option word n =
+    if bytes_eq option (codes "--workers") then option_map (λ v. record n { workers = Some v }) (once n.workers (number_within 1 64 word))
+    else if bytes_eq option (codes "--partitions") then option_map (λ v. record n { partitions = Some v }) (once n.partitions (number_within 1 1024 word))
+    else if bytes_eq option (codes "--piece") then option_map (λ v. record n { piece = Some v }) (once n.piece (number_within 1 4294967295 word))
+    else if bytes_eq option (codes "--threshold") then option_map (λ v. record n { threshold = Some v }) (once n.threshold (number_within 1 4294967295 word))
+    else if bytes_eq option (codes "--seed") then option_map (λ v. record n { seed = Some v }) (once n.seed (number_within 0 18446744073709551615 word))
+    else None
+
+-- what was given so far
+pub record Given : Type 0 where
+  pub by : Option (List ℕ)
+  pub aggs : List (List ℕ × Method)
+  pub numbers : Numbers
+  pub null_word : Option (List ℕ)
+  pub explain : Bool
+
+abbrev pub nothing : Given
+nothing = record { by = None; aggs = []; numbers = no_numbers; null_word = None; explain = false }
+
+abbrev pub with_key : List ℕ → Given → Option Given
+with_key word g = option_map (λ v. record g { by = Some v }) (once g.by (Some word))
+
+-- only aggregates may come again
+abbrev pub with_agg : List ℕ → Given → Option Given
+with_agg word g = option_map (λ agg. record g { aggs = g.aggs ++ agg ∷ [] }) (agg_of word)
+
+abbrev pub with_null_word : List ℕ → Given → Option Given
+with_null_word word g = option_map (λ v. record g { null_word = Some v }) (once g.null_word (Some word))
+
+abbrev pub with_explain : Given → Option Given
+with_explain g = if g.explain then None else Some (record g { explain = true })
+
+-- an option with its value
+unfoldable pub with_option : List ℕ → List ℕ → Given → Option Given
+with_option option word g =
+    if bytes_eq option (codes "--by") then with_key word g
+    else if bytes_eq option (codes "--agg") then with_agg word g
+    else if bytes_eq option (codes "--null") then with_null_word word g
+    else option_map (λ n. record g { numbers = n }) (with_number option word g.numbers)
+
+unfoldable pub given_from : List (List ℕ) → Given → Option Given
+given_from [] g = Some g
+given_from (option ∷ []) g = if bytes_eq option (codes "--explain") then with_explain g else None
+given_from (option ∷ word ∷ rest) g =
+    if bytes_eq option (codes "--explain") then option_and_then (given_from (word ∷ rest)) (with_explain g)
+    else option_and_then (given_from rest) (with_option option word g)
+
+-- the defaults filled in; there are as many partitions as workers
+abbrev pub options_of : Numbers → List ℕ → Bool → ToolOptions
+options_of n null_word explain =
+    let workers = unwrap_or n.workers 4 in record {
+      workers = workers;
+      partitions = unwrap_or n.partitions workers;
+      piece = unwrap_or n.piece 4096;
+      threshold = unwrap_or n.threshold 1000;
+      seed = unwrap_or n.seed 0;
+      null_word = null_word;
+      explain = explain;
+    }
+
+abbrev pub default_options : ToolOptions
+default_options = options_of no_numbers [] false
+
+abbrev pub group_of : Given → Option Request
+group_of g = option_map (λ name. Group (name ∷ []) g.aggs (options_of g.numbers (unwrap_or g.null_word []) g.explain)) g.by
+
 unfoldable pub request : List (List ℕ) → Option Request
 request [] = None
-request (command ∷ []) = None
-request (command ∷ option ∷ []) = None
-request (command ∷ option ∷ name ∷ rest) = if bytes_eq command (codes "group") && bytes_eq option (codes "--by") then group_by name (aggs_of rest) else None
+request (command ∷ options) = if bytes_eq command (codes "group") then option_and_then group_of (given_from options nothing) else None

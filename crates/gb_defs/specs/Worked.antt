@@ -14,3 +14,9 @@ keys_alone = Group (codes "k" ∷ []) [] default_options
 
 abbrev pub by_day : Request
 by_day = Group (codes "day" ∷ []) [] default_options
+
+abbrev pub two_workers : Request
+two_workers = Group (codes "k" ∷ []) ((codes "v", Sum) ∷ []) (record default_options { workers = 2; partitions = 2; explain = true })
+
+abbrev pub null_by : Request
+null_by = Group (codes "k" ∷ []) [] (record default_options { null_word = codes "--by" })

@@ -4,7 +4,7 @@ ghost use Rattle.std.specs.Prelude.{◌≡◌, codes, [], ◌∷◌, Some, None}
 ghost use Rattle.gb_defs.specs.Outcome.{outcome, Report, BadTable, BadGroup};
 ghost use Rattle.gb_defs.specs.Request.{request, Group, default_options};
 ghost use Rattle.gb_defs.specs.Fold.{Sum};
-ghost use Rattle.gb_defs.specs.Worked.{sums_by_date, sums_by_key, keys_alone, by_day};
+ghost use Rattle.gb_defs.specs.Worked.{sums_by_date, sums_by_key, keys_alone, by_day, two_workers, null_by};
 
 /// The request that the words of a command line spell.
 pub fn requests()
@@ -13,6 +13,10 @@ pub fn requests()
     ensures command_alone { request (codes "group" ∷ []) ≡ None }
     ensures no_value { request (codes "group" ∷ codes "--by" ∷ codes "k" ∷ codes "--agg" ∷ []) ≡ None }
     ensures unknown_method { request (codes "group" ∷ codes "--by" ∷ codes "k" ∷ codes "--agg" ∷ codes "total:v" ∷ []) ≡ None }
+    ensures any_order { request (codes "group" ∷ codes "--explain" ∷ codes "--agg" ∷ codes "sum:v" ∷ codes "--workers" ∷ codes "2" ∷ codes "--by" ∷ codes "k" ∷ []) ≡ Some two_workers }
+    ensures repeated { request (codes "group" ∷ codes "--by" ∷ codes "k" ∷ codes "--by" ∷ codes "j" ∷ []) ≡ None }
+    ensures out_of_range { request (codes "group" ∷ codes "--by" ∷ codes "k" ∷ codes "--workers" ∷ codes "65" ∷ []) ≡ None }
+    ensures value_like_an_option { request (codes "group" ∷ codes "--null" ∷ codes "--by" ∷ codes "--by" ∷ codes "k" ∷ []) ≡ Some null_by }
 {}
 
 /// What a request makes of a table's text.

@@ -20,10 +20,10 @@ use Rattle.gb_cols.specs.Column.{pushed}
 use Rattle.gb_tool.specs.Table.{column_with}
 use Rattle.gb_defs.specs.Cell.{is_numeral, fits_signed, signed_value, cell_slot}
 
-digits_model : IsNumeralModel (λ ds. all_ascii_digits ds ≡ true) (digits_value 10)
+pub digits_model : IsNumeralModel (λ ds. all_ascii_digits ds ≡ true) (digits_value 10)
 digits_model = numerals_by_value _ tells_all_ascii_digits
 
-numeral_tells : (ds : List ℕ) → Decides (is_numeral ds) (IsNumeral 10 ds)
+pub numeral_tells : (ds : List ℕ) → Decides (is_numeral ds) (IsNumeral 10 ds)
 numeral_tells [] = (λ e. cc, λ h. absurd (omega (arith, h.0)))
 numeral_tells (d ∷ ds) =
     let some : not (length (d ∷ ds) == 0) ≡ true = not_from_false (length (d ∷ ds) == 0) (ne_eqb (length (d ∷ ds)) 0 (omega arith)) in (

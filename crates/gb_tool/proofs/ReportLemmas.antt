@@ -1,10 +1,11 @@
 -- What a request over a table comes to, by what its steps give.
 use Rattle.std.proofs.Common.{◌≡◌, ℕ, Bool, true, false, List, [], ◌∷◌, ◌∙◌, Option, Some, None, cond, length, map, get_or, refl, ap, arith}
+use Rattle.std.specs.Prelude.{option_map, option_and_then}
 use Rattle.gb_defs.specs.Column.{Frame}
 use Rattle.gb_defs.specs.Fault.{Fault}
 use Rattle.gb_defs.specs.Fold.{Method}
 use Rattle.gb_defs.specs.Outcome.{Outcome, BadTable, Report, find_columns, outcome, outcome_by_frame, outcome_by_keys}
-use Rattle.gb_defs.specs.Request.{Request, Group, ToolOptions, aggs_of, group_by, request}
+use Rattle.gb_defs.specs.Request.{Given, Group, Request, ToolOptions, given_from, group_of, nothing, request}
 use Rattle.gb_defs.specs.Table.{readable_table}
 use Rattle.gb_cols.specs.PolarsError.{cause_of}
 use Rattle.gb_cols.specs.declared.error.PolarsError.{PolarsError}
@@ -25,21 +26,23 @@ one_name f (x ∷ []) d e = refl
 one_name f (x ∷ y ∷ xs) d e = absurd (omega (arith, e))
 
 -- words ask for one key
-asked_one : (name : List ℕ) (aggs : Option (List (List ℕ × Method))) (q : Request) → group_by name aggs ≡ Some q → HasOneKey q
-asked_one name None q e = cc
-asked_one name (Some aggs) (Group by others options) e =
-    let same : by ≡ name ∷ [] = cc in ap (λ (xs : List (List ℕ)). length xs) same
+asked_one : (by : Option (List ℕ)) (aggs : List (List ℕ × Method)) (options : ToolOptions) (q : Request) → option_map (λ name. Group (name ∷ []) aggs options) by ≡ Some q → HasOneKey q
+asked_one None aggs options q e = cc
+asked_one (Some name) aggs options (Group names others its_options) e =
+    let same : names ≡ name ∷ [] = cc in ap (λ (xs : List (List ℕ)). length xs) same
 
-if_asked : (b : Bool) (name : List ℕ) (aggs : Option (List (List ℕ × Method))) (q : Request) → cond b (group_by name aggs) None ≡ Some q → HasOneKey q
-if_asked true name aggs q e = asked_one name aggs q e
-if_asked false name aggs q e = cc
+given_one : (given : Option Given) (q : Request) → option_and_then group_of given ≡ Some q → HasOneKey q
+given_one None q e = cc
+given_one (Some g) q e = asked_one g.by g.aggs _ q e
+
+if_asked : (b : Bool) (given : Option Given) (q : Request) → cond b (option_and_then group_of given) None ≡ Some q → HasOneKey q
+if_asked true given q e = given_one given q e
+if_asked false given q e = cc
 
 pub words_one : (words : List (List ℕ)) (q : Request) → request words ≡ Some q → HasOneKey q
 unfolding request
 words_one [] q e = cc
-words_one (command ∷ []) q e = cc
-words_one (command ∷ option ∷ []) q e = cc
-words_one (command ∷ option ∷ name ∷ rest) q e = if_asked _ name (aggs_of rest) q e
+words_one (command ∷ options) q e = if_asked _ (given_from options nothing) q e
 
 module _ (by : List (List ℕ)) (aggs : List (List ℕ × Method)) (options : ToolOptions) (bytes : List ℕ) where
   bad_place : (fault : TableFault) (read : Option Frame) → IsRefusedTable (Faulty fault) read → (fault ≡ BadCell 0 0) × (outcome_by_frame by aggs options.null_word read ≡ BadTable)

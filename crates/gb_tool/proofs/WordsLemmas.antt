@@ -1,13 +1,20 @@
--- The words of a command line: a method before its colon, and pairs of an option and a word from the front.
-use Rattle.std.proofs.Common.{◌≡◌, ◌≢◌, ℕ, ◌+◌, ◌-◌, ◌*◌, ◌<◌, ◌≤◌, ◌%◌, Bool, true, false, not, ◌&&◌, List, [], ◌∷◌, ◌++◌, map, length, get_or, take, drop, cond, eqb, Option, Some, None, Bor, codes, refl, sym, ap, ◌∙◌, arith, append_assoc, append-nil}
+-- The words of a command line: a method before its colon, a number in its range, and options from the front.
+use Rattle.std.proofs.Common.{◌≡◌, ◌==◌, ◌≤◌, ◌<◌, ◌^◌, ℕ, Bool, true, false, not, ◌&&◌, List, [], ◌∷◌, map, length, drop, eqb, leb, Option, Some, None, Result, Ok, Err, Bor, codes, refl, sym, ap, ◌∙◌, arith}
+use Rattle.std.specs.Prelude.{option_and_then}
+use Rattle.std.specs.Char.{is_ascii_digit}
 use Rattle.std.specs.Option.{MatchOption}
-use Rattle.std.specs.Str.{bytes_eq}
+use Rattle.std.specs.Result.{result_ok}
+use Rattle.std.specs.Str.{all_ascii_digits, bytes_eq}
+use Rattle.std.specs.Str.Parse.{ParsesUnsigned, digits_value}
 use Rattle.std.specs.Str.Pattern.{FindsTextPrefix, StripsPrefix}
-use Rattle.std.specs.List.{starts_with}
-use Rattle.std.proofs.lemmas.List.{drop_more, drop-map, get_or-map, take_rest}
+use Rattle.std.specs.List.{starts_with, list_all}
+use Rattle.std.proofs.lemmas.Bool.{leb-true, le-leb, and_parts, and_from, false_from_ne_true, not_from_false}
+use Rattle.std.proofs.lemmas.Str.Parse.{parse_digits, parse_gives}
 use Rattle.std.proofs.lemmas.Str.Pattern.{starts_text}
-use Rattle.gb_defs.specs.Fold.{Method, Sum, Count}
-use Rattle.gb_defs.specs.Request.{Request, agg_of, agg_onto, aggs_of, group_by, request}
+use Rattle.gb_defs.specs.Cell.{is_numeral}
+use Rattle.gb_defs.specs.Fold.{Sum, Count}
+use Rattle.gb_defs.specs.Request.{Given, agg_of, given_from, group_of, nothing, number_within, request, with_explain, with_option}
+use Rattle.gb_tool.proofs.CellLemmas.{digits_model, numeral_tells}
 
 -- what `strip_prefix` says, by `starts_with`
 pub strips : (n s : List ℕ) (r : Option (Bor (List ℕ))) → MatchOption r (FindsTextPrefix n s None) (λ x. StripsPrefix (FindsTextPrefix n) s x.now) →
@@ -27,104 +34,118 @@ pub agg_of-none : (word : List ℕ) → starts_with eqb word (codes "sum:") ≡ 
 unfolding agg_of
 agg_of-none word n h = rw (n, h)
 
-abbrev Aggs : Type 0
-Aggs = List (List ℕ × Method)
+-- ---- a number within a range
 
--- the aggregates so far, and then those of the rest
-abbrev pub before : Aggs → Option Aggs → Option Aggs
-before done None = None
-before done (Some rest) = Some (done ++ rest)
+all_digits : (bs : List ℕ) → list_all is_ascii_digit bs ≡ all_ascii_digits bs
+all_digits [] = refl
+all_digits (b ∷ bs) = ap (λ t. is_ascii_digit b && t) (all_digits bs)
 
-pub before_none : (rest : Option Aggs) → rest ≡ before [] rest
-before_none None = refl
-before_none (Some rest) = refl
+pub numeral_from : (bs : List ℕ) → false ≡ (length bs == 0) → list_all is_ascii_digit bs ≡ true → is_numeral bs ≡ true
+numeral_from bs some digits = and_from (not (length bs == 0)) (all_ascii_digits bs) (not_from_false (length bs == 0) (sym some)) (sym (all_digits bs) ∙ digits)
 
-pub before_all : (done : Aggs) → before done (Some []) ≡ Some done
-before_all done = ap (λ x. Some x) (append-nil done)
+pub numeral_digits : (bs : List ℕ) → is_numeral bs ≡ true → list_all is_ascii_digit bs ≡ true
+numeral_digits bs e = all_digits bs ∙ (and_parts (not (length bs == 0)) (all_ascii_digits bs) e).1
 
-onto_none : (agg : Option (List ℕ × Method)) → agg_onto agg None ≡ None
-onto_none None = refl
-onto_none (Some agg) = refl
+pub numeral_some : (bs : List ℕ) → is_numeral bs ≡ true → 0 < length bs
+numeral_some bs e = ((numeral_tells bs).0 e).0
 
-before_onto : (done : Aggs) (agg : List ℕ × Method) (rest : Option Aggs) → before done (agg_onto (Some agg) rest) ≡ before (done ++ agg ∷ []) rest
-before_onto done agg None = refl
-before_onto done agg (Some rest) = ap (λ x. Some x) (sym (append_assoc done (agg ∷ []) rest))
+module _ (least most : ℕ) (bs : List ℕ) where
+  pub within_none : (is_numeral bs ≡ true → length bs ≤ 20 → least ≤ digits_value 10 bs → digits_value 10 bs ≤ most → ⊥) → None ≡ number_within least most bs
+  unfolding number_within
+  within_none refuted =
+      let no = false_from_ne_true (is_numeral bs && leb (length bs) 20 && leb least (digits_value 10 bs) && leb (digits_value 10 bs) most)
+      (λ e. let most_part = and_parts (is_numeral bs && leb (length bs) 20 && leb least (digits_value 10 bs)) (leb (digits_value 10 bs) most) e in
+      let least_part = and_parts (is_numeral bs && leb (length bs) 20) (leb least (digits_value 10 bs)) most_part.0 in
+      let few_part = and_parts (is_numeral bs) (leb (length bs) 20) least_part.0 in
+      refuted few_part.0 (leb-true (length bs) 20 few_part.1) (leb-true least (digits_value 10 bs) least_part.1) (leb-true (digits_value 10 bs) most most_part.1)) in
+      rw no
 
-pair_none : (b : Bool) (agg : Option (List ℕ × Method)) (rest : Option Aggs) → rest ≡ None → cond b (agg_onto agg rest) None ≡ None
-pair_none true agg rest e = ap (agg_onto agg) e ∙ onto_none agg
-pair_none false agg rest e = refl
+  pub within_some : is_numeral bs ≡ true → length bs ≤ 20 → least ≤ digits_value 10 bs → digits_value 10 bs ≤ most → Some (digits_value 10 bs) ≡ number_within least most bs
+  unfolding number_within
+  within_some numeral few low high =
+      let is_few = le-leb (length bs) 20 few in let is_low = le-leb least (digits_value 10 bs) low in let is_high = le-leb (digits_value 10 bs) most high in
+      rw (numeral, is_few, is_low, is_high)
 
-none_either : (b : Bool) → let none : Option Aggs = None in cond b none none ≡ none
-none_either true = refl
-none_either false = refl
+module _ {E : Type 0} (bs : List ℕ) (r : Result ℕ E) (h : ParsesUnsigned 64 10 bs r) (numeral : is_numeral bs ≡ true) where
+  digits : all_ascii_digits bs ≡ true
+  digits = (and_parts (not (length bs == 0)) (all_ascii_digits bs) numeral).1
 
--- an option without a word
-pub aggs_of-odd : (words : List (List ℕ)) → length words % 2 ≢ 0 → aggs_of words ≡ None
-aggs_of-odd [] n = absurd (n refl)
-aggs_of-odd (option ∷ []) n = refl
-aggs_of-odd (option ∷ word ∷ rest) n = pair_none (bytes_eq option (codes "--agg")) (agg_of word) (aggs_of rest) (aggs_of-odd rest (λ e. n (omega (arith, e))))
+  pub parse_refuses : result_ok r ≡ None → digits_value 10 bs < 2 ^ 64 → ⊥
+  parse_refuses none small = let gives = parse_gives digits_model 64 bs r h digits (numeral_some bs numeral) small in let some : None ≡ Some (digits_value 10 bs) = sym none ∙ ap result_ok gives in cc
 
--- the pair at a place
-at_pair : (words : List (List ℕ)) (pair : ℕ) → 2 * pair + 1 < length words → aggs_of (drop (2 * pair) words) ≡
-    cond (bytes_eq (get_or words (2 * pair) []) (codes "--agg")) (agg_onto (agg_of (get_or words (2 * pair + 1) [])) (aggs_of (drop (2 * (pair + 1)) words))) None
-at_pair words pair h = let less : 2 * pair < length words = omega arith in let next : 2 * pair + 1 + 1 ≡ 2 * (pair + 1) = omega arith in
-    ap aggs_of (drop_more words (2 * pair) [] less ∙ ap (λ t. get_or words (2 * pair) [] ∷ t) (drop_more words (2 * pair + 1) [] h ∙ ap (λ k. get_or words (2 * pair + 1) [] ∷ drop k words) next))
+pub parse_reads : {E : Type 0} (bs : List ℕ) (r : Result ℕ E) (x : ℕ) → ParsesUnsigned 64 10 bs r → is_numeral bs ≡ true → result_ok r ≡ Some x → x ≡ digits_value 10 bs
+parse_reads {E = E} bs (Ok y) x h numeral e =
+    let same : y ≡ x = cc in sym same ∙ (parse_digits digits_model {E = E} 64 bs (Ok y) h (and_parts (not (length bs == 0)) (all_ascii_digits bs) numeral).1).1
+parse_reads bs (Err d) x h numeral e = cc
 
-module _ (words : List (List ℕ)) (pair : ℕ) (done : Aggs) (so_far : aggs_of words ≡ before done (aggs_of (drop (2 * pair) words))) (within : 2 * pair + 1 < length words) where
-  pub pair_other : bytes_eq (get_or words (2 * pair) []) (codes "--agg") ≡ false → aggs_of words ≡ None
-  pair_other e = so_far ∙ ap (before done) (rw e at (at_pair words pair within))
+-- ---- options from the front
 
-  pub pair_bad : agg_of (get_or words (2 * pair + 1) []) ≡ None → aggs_of words ≡ None
-  pair_bad e = so_far ∙ ap (before done) (rw e at (at_pair words pair within) ∙ none_either (bytes_eq (get_or words (2 * pair) []) (codes "--agg")))
+and_then_last : (o : Option Given) → o ≡ option_and_then (λ g. Some g) o
+and_then_last None = refl
+and_then_last (Some g) = refl
 
-  pub pair_more : (agg : List ℕ × Method) → bytes_eq (get_or words (2 * pair) []) (codes "--agg") ≡ true → agg_of (get_or words (2 * pair + 1) []) ≡ Some agg →
-      aggs_of words ≡ before (done ++ agg ∷ []) (aggs_of (drop (2 * (pair + 1)) words))
-  pair_more agg e f = so_far ∙ ap (before done) (rw (e, f) at (at_pair words pair within)) ∙ before_onto done agg (aggs_of (drop (2 * (pair + 1)) words))
+pub from-explain : (option : List ℕ) (rest : List (List ℕ)) (g : Given) → bytes_eq option (codes "--explain") ≡ true → given_from (option ∷ rest) g ≡ option_and_then (given_from rest) (with_explain g)
+unfolding given_from
+from-explain option [] g e = rw e (and_then_last (with_explain g))
+from-explain option (word ∷ rest) g e = rw e
 
--- the bytes of the word at a place
-pub word_at : {A : Type 0} (bytes_of : A → List ℕ) (words : List A) (i : ℕ) (word : A) → i < length words → word ≡ get_or words i word → get_or (map bytes_of words) i [] ≡ bytes_of word
-word_at bytes_of words i word within e = get_or-map bytes_of words i word [] within ∙ ap bytes_of (sym e)
+pub from-alone : (option : List ℕ) (g : Given) → bytes_eq option (codes "--explain") ≡ false → given_from (option ∷ []) g ≡ None
+unfolding given_from
+from-alone option g e = rw e
 
-pub false_from_not : (b : Bool) → true ≡ not b → b ≡ false
-false_from_not true e = cc
-false_from_not false e = refl
+pub from-option : (option word : List ℕ) (rest : List (List ℕ)) (g : Given) → bytes_eq option (codes "--explain") ≡ false →
+    given_from (option ∷ word ∷ rest) g ≡ option_and_then (given_from rest) (with_option option word g)
+unfolding given_from
+from-option option word rest g e = rw e
+
+pub no_words : {A : Type 0} (xs : List A) → length xs ≡ 0 → xs ≡ []
+no_words [] e = refl
+no_words (x ∷ xs) e = absurd (omega (arith, e))
+
+module _ {A : Type 0} (bytes_of : A → List ℕ) (all : Option Given) (left : List A) (g : Given) (so_far : all ≡ given_from (map bytes_of left) g) where
+  pub at_end : length left ≡ 0 → Some g ≡ all
+  unfolding given_from
+  at_end none = sym (so_far ∙ ap (λ ws. given_from (map bytes_of ws) g) (no_words left none))
+
+  module _ (option : A) (after : List A) (text : List ℕ) (split : left ≡ option ∷ after) (its_text : text ≡ bytes_of option) where
+    at_front : all ≡ given_from (text ∷ map bytes_of after) g
+    at_front = so_far ∙ ap (λ ws. given_from (map bytes_of ws) g) split ∙ ap (λ t. given_from (t ∷ map bytes_of after) g) (sym its_text)
+
+    pub explain_more : (o : Option Given) → bytes_eq text (codes "--explain") ≡ true → with_explain g ≡ o → all ≡ option_and_then (given_from (map bytes_of after)) o
+    explain_more o e f = at_front ∙ from-explain text (map bytes_of after) g e ∙ ap (option_and_then (given_from (map bytes_of after))) f
+
+    pub alone : bytes_eq text (codes "--explain") ≡ false → length after ≡ 0 → None ≡ all
+    alone e none = sym (at_front ∙ ap (λ ws. given_from (text ∷ map bytes_of ws) g) (no_words after none) ∙ from-alone text g e)
+
+    pub option_more : (word : A) (rest : List A) (value : List ℕ) (o : Option Given) → bytes_eq text (codes "--explain") ≡ false → after ≡ word ∷ rest → value ≡ bytes_of word → with_option text value g ≡ o →
+        all ≡ option_and_then (given_from (map bytes_of rest)) o
+    option_more word rest value o e again its_value f =
+        at_front ∙ ap (λ ws. given_from (text ∷ map bytes_of ws) g) again ∙ ap (λ v. given_from (text ∷ v ∷ map bytes_of rest) g) (sym its_value) ∙ from-option text value (map bytes_of rest) g e
+        ∙ ap (option_and_then (given_from (map bytes_of rest))) f
+
+-- ---- the command
+
+module _ {A : Type 0} (bytes_of : A → List ℕ) (words : List A) where
+  pub no_command : length words ≡ 0 → None ≡ request (map bytes_of words)
+  unfolding request
+  no_command none = sym (ap (λ ws. request (map bytes_of ws)) (no_words words none))
+
+  module _ (command : A) (options : List A) (text : List ℕ) (split : words ≡ command ∷ options) (its_text : text ≡ bytes_of command) where
+    at_command : request (map bytes_of words) ≡ request (text ∷ map bytes_of options)
+    at_command = ap (λ ws. request (map bytes_of ws)) split ∙ ap (λ t. request (t ∷ map bytes_of options)) (sym its_text)
+
+    pub other_command : bytes_eq text (codes "group") ≡ false → None ≡ request (map bytes_of words)
+    unfolding request
+    other_command e = sym (at_command ∙ rw e)
+
+    pub group_command : (o : Option Given) → bytes_eq text (codes "group") ≡ true → given_from (map bytes_of options) nothing ≡ o → request (map bytes_of words) ≡ option_and_then group_of o
+    unfolding request
+    group_command o e f = at_command ∙ rw (e, f)
 
 pub true_from_not : (b : Bool) → false ≡ not b → b ≡ true
 true_from_not true e = refl
 true_from_not false e = cc
 
-pub request-few : (words : List (List ℕ)) → length words < 3 → request words ≡ None
-unfolding request
-request-few [] few = refl
-request-few (command ∷ []) few = refl
-request-few (command ∷ option ∷ []) few = refl
-request-few (command ∷ option ∷ name ∷ rest) few = absurd (omega arith)
-
-pub request-other_command : (words : List (List ℕ)) → bytes_eq (get_or words 0 []) (codes "group") ≡ false → request words ≡ None
-unfolding request
-request-other_command [] e = refl
-request-other_command (command ∷ []) e = refl
-request-other_command (command ∷ option ∷ []) e = refl
-request-other_command (command ∷ option ∷ name ∷ rest) e = rw e
-
-both_false : (b : Bool) (r : Option Request) → cond (b && false) r None ≡ None
-both_false true r = refl
-both_false false r = refl
-
-pub request-other_option : (words : List (List ℕ)) → bytes_eq (get_or words 1 []) (codes "--by") ≡ false → request words ≡ None
-unfolding request
-request-other_option [] e = refl
-request-other_option (command ∷ []) e = refl
-request-other_option (command ∷ option ∷ []) e = refl
-request-other_option (command ∷ option ∷ name ∷ rest) e = rw e (both_false (bytes_eq command (codes "group")) (group_by name (aggs_of rest)))
-
-pub request-group : (words : List (List ℕ)) → 3 ≤ length words → bytes_eq (get_or words 0 []) (codes "group") ≡ true → bytes_eq (get_or words 1 []) (codes "--by") ≡ true →
-    request words ≡ group_by (get_or words 2 []) (aggs_of (drop 3 words))
-unfolding request
-request-group [] many e f = absurd (omega arith)
-request-group (command ∷ []) many e f = absurd (omega arith)
-request-group (command ∷ option ∷ []) many e f = absurd (omega arith)
-request-group (command ∷ option ∷ name ∷ rest) many e f = rw (e, f)
-
-pub rest_words : {A : Type 0} (bytes_of : A → List ℕ) (words : List A) → map bytes_of (take (length words - 3) (drop 3 words)) ≡ drop 3 (map bytes_of words)
-rest_words bytes_of words = ap (map bytes_of) (take_rest words 3) ∙ sym (drop-map bytes_of 3 words)
+pub false_from_not : (b : Bool) → true ≡ not b → b ≡ false
+false_from_not true e = cc
+false_from_not false e = refl

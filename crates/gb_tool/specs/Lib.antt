@@ -6,3 +6,4 @@ pub mod Run
 pub mod Status
 pub mod Table
 pub mod Text
+pub mod Words

@@ -77,7 +77,7 @@ struct Row {
     wrote: &'static str,
 }
 
-const ROWS: [Row; 6] = [
+const ROWS: [Row; 8] = [
     Row {
         words: SUMS,
         input: DAYS,
@@ -106,6 +106,18 @@ const ROWS: [Row; 6] = [
         words: "group --by day",
         input: DAYS,
         code: 4,
+        wrote: "",
+    },
+    Row {
+        words: "group --null - --agg sum:v --workers 2 --explain --by k",
+        input: "k,v:i64\n-,5\n1,-\n-,7\n",
+        code: 0,
+        wrote: "k:str,v_sum:i64\n-,12\n1,0\n",
+    },
+    Row {
+        words: "group --by date --workers 65",
+        input: DAYS,
+        code: 2,
         wrote: "",
     },
     Row {

@@ -1,78 +1,93 @@
 //! The words of a command line.
 
+pub mod given;
+pub mod numbers;
+
 ghost use Rattle.std.specs.Prelude.{◌≡◌, IfErr, IfOk, map, option_map};
 ghost use Rattle.std.specs.String.{string_bytes};
 ghost use Rattle.gb_defs.specs.Request as spelled;
-ghost use Rattle.gb_cols.specs.PlSmallStr.{IsNoMemory};
+ghost use Rattle.gb_cols.specs.PlSmallStr.{IsNoMemory, text_of};
 ghost use Rattle.gb_tool.specs.Request as made;
+ghost use Rattle.gb_tool.specs.Words.{given_of, numbers_of};
 
-use crate::request::{Agg, GroupByMethod, Request, ToolOptions};
+use crate::request::{Request, ToolOptions};
+use crate::words::given::Given;
+use crate::words::numbers::Numbers;
 use gb_cols::error::PolarsResult;
 use gb_cols::small_str::PlSmallStr;
 use std::alloc::Global;
 
-fn default_options(alloc: Global) -> PolarsResult<ToolOptions>
-    ensures ok { IfOk result (λ options. made.options_of options ≡ spelled.default_options) }
+// What options give, None where there is one that is at fault.
+fn given_from(alloc: Global, options: &[String]) -> PolarsResult<Option<Given>>
+    ensures ok { IfOk result (λ o. option_map given_of o ≡ spelled.given_from (map string_bytes options.now) spelled.nothing) }
     ensures err { IfErr result IsNoMemory }
 {
-    Ok(ToolOptions {
-        workers: 4,
-        partitions: 4,
-        piece: 4096,
-        threshold: 1000,
-        seed: 0,
-        null_word: PlSmallStr::from_str(alloc, "")?,
-        explain: false,
-    })
-}
-
-fn new_agg(alloc: Global, column: &str, method: GroupByMethod) -> PolarsResult<Agg>
-    ensures ok { IfOk result (λ agg. made.agg_of agg ≡ (column.now, made.method_of method)) }
-    ensures err { IfErr result IsNoMemory }
-{
-    Ok(Agg {
-        column: PlSmallStr::from_str(alloc, column)?,
-        method,
-    })
-}
-
-// The aggregate that METHOD:NAME asks.
-fn agg_of(alloc: Global, word: &str) -> PolarsResult<Option<Agg>>
-    ensures ok { IfOk result (λ o. option_map made.agg_of o ≡ spelled.agg_of word.now) }
-    ensures err { IfErr result IsNoMemory }
-{
-    if let Some(column) = word.strip_prefix("sum:") {
-        return Ok(Some(new_agg(alloc, column, GroupByMethod::Sum)?));
+    let mut given = Given::nothing(alloc);
+    let mut left = options;
+    while let Some((option, after)) = left.split_first() {
+        let option = option.as_str();
+        if option == "--explain" {
+            let Some(more) = given.with_explain() else {
+                return Ok(None);
+            };
+            given = more;
+            left = after;
+        } else {
+            let Some((word, rest)) = after.split_first() else {
+                return Ok(None);
+            };
+            let Some(more) = given.with_option(alloc, option, word.as_str())? else {
+                return Ok(None);
+            };
+            given = more;
+            left = rest;
+        }
     }
-    if let Some(column) = word.strip_prefix("count:") {
-        let method = GroupByMethod::Count {
-            include_nulls: true,
-        };
-        return Ok(Some(new_agg(alloc, column, method)?));
-    }
-    Ok(None)
+    Ok(Some(given))
 }
 
-// The aggregates that pairs of an option and a word ask.
-fn aggs_of(alloc: Global, words: &[String]) -> PolarsResult<Option<Vec<Agg>>>
-    ensures ok { IfOk result (λ o. option_map (λ aggs. made.aggs_of aggs.items) o ≡ spelled.aggs_of (map string_bytes words.now)) }
+// The defaults filled in.
+fn options_of(numbers: Numbers, null_word: PlSmallStr, explain: bool) -> ToolOptions
+    ensures { made.options_of result ≡ spelled.options_of (numbers_of numbers) (text_of null_word) explain }
+{
+    let workers = numbers.workers.unwrap_or(4);
+    ToolOptions {
+        workers: workers as usize,
+        partitions: numbers.partitions.unwrap_or(workers) as usize,
+        piece: numbers.piece.unwrap_or(4096) as usize,
+        threshold: numbers.threshold.unwrap_or(1000) as usize,
+        seed: numbers.seed.unwrap_or(0),
+        null_word,
+        explain,
+    }
+}
+
+// The request of what was given, None without a key.
+fn group_of(alloc: Global, given: Given) -> PolarsResult<Option<Request>>
+    ensures ok { IfOk result (λ o. option_map made.request_of o ≡ spelled.group_of (given_of given)) }
     ensures err { IfErr result IsNoMemory }
 {
-    if words.len() % 2 != 0 {
+    let Given {
+        by,
+        aggs,
+        numbers,
+        null_word,
+        explain,
+    } = given;
+    let Some(name) = by else {
         return Ok(None);
-    }
-    let pairs = words.len() / 2;
-    let mut aggs = Vec::with_capacity(alloc, pairs)?;
-    for pair in 0..pairs {
-        if words[2 * pair].as_str() != "--agg" {
-            return Ok(None);
-        }
-        match agg_of(alloc, words[2 * pair + 1].as_str())? {
-            Some(agg) => aggs.push(agg)?,
-            None => return Ok(None),
-        }
-    }
-    Ok(Some(aggs))
+    };
+    let null_word = match null_word {
+        Some(word) => word,
+        None => PlSmallStr::from_str(alloc, "")?,
+    };
+    let mut by = Vec::with_capacity(alloc, 1)?;
+    by.push(name)?;
+    Ok(Some(Request::Group {
+        by,
+        aggs,
+        options: options_of(numbers, null_word, explain),
+    }))
 }
 
 /// The request that the words spell, None where they spell none.
@@ -80,17 +95,14 @@ pub fn request_of(alloc: Global, words: &[String]) -> PolarsResult<Option<Reques
     ensures ok { IfOk result (λ o. option_map made.request_of o ≡ spelled.request (map string_bytes words.now)) }
     ensures err { IfErr result IsNoMemory }
 {
-    if words.len() < 3 || words[0].as_str() != "group" || words[1].as_str() != "--by" {
-        return Ok(None);
-    }
-    let Some(aggs) = aggs_of(alloc, &words[3..])? else {
+    let Some((command, options)) = words.split_first() else {
         return Ok(None);
     };
-    let mut by = Vec::with_capacity(alloc, 1)?;
-    by.push(PlSmallStr::from_str(alloc, words[2].as_str())?)?;
-    Ok(Some(Request::Group {
-        by,
-        aggs,
-        options: default_options(alloc)?,
-    }))
+    if command.as_str() != "group" {
+        return Ok(None);
+    }
+    match given_from(alloc, options)? {
+        Some(given) => group_of(alloc, given),
+        None => Ok(None),
+    }
 }

@@ -1,23 +1,39 @@
 use Rattle.std.proofs.Common.{refl}
-use Rattle.gb_defs.specs.Request.{agg_of, request}
+use Rattle.gb_defs.specs.Request.{agg_of, given_from, number_within, request, with_number, with_option}
 use Rattle.gb_defs.proofs.worked.requests.Goals as goal
 
 pub returns-clause-spelled : goal.returns-clause-spelled
-unfolding request agg_of
+unfolding request given_from with_option with_number number_within agg_of
 returns-clause-spelled c = refl
 
 pub returns-clause-colon : goal.returns-clause-colon
-unfolding request agg_of
+unfolding request given_from with_option with_number number_within agg_of
 returns-clause-colon c = refl
 
 pub returns-clause-command_alone : goal.returns-clause-command_alone
-unfolding request agg_of
+unfolding request given_from with_option with_number number_within agg_of
 returns-clause-command_alone c = refl
 
 pub returns-clause-no_value : goal.returns-clause-no_value
-unfolding request agg_of
+unfolding request given_from with_option with_number number_within agg_of
 returns-clause-no_value c = refl
 
 pub returns-clause-unknown_method : goal.returns-clause-unknown_method
-unfolding request agg_of
+unfolding request given_from with_option with_number number_within agg_of
 returns-clause-unknown_method c = refl
+
+pub returns-clause-any_order : goal.returns-clause-any_order
+unfolding request given_from with_option with_number number_within agg_of
+returns-clause-any_order c = refl
+
+pub returns-clause-repeated : goal.returns-clause-repeated
+unfolding request given_from with_option with_number number_within agg_of
+returns-clause-repeated c = refl
+
+pub returns-clause-out_of_range : goal.returns-clause-out_of_range
+unfolding request given_from with_option with_number number_within agg_of
+returns-clause-out_of_range c = refl
+
+pub returns-clause-value_like_an_option : goal.returns-clause-value_like_an_option
+unfolding request given_from with_option with_number number_within agg_of
+returns-clause-value_like_an_option c = refl

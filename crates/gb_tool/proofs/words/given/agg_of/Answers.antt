@@ -1,7 +1,7 @@
 use Rattle.std.proofs.Common.{codes, ap, sym, ◌∙◌, Some, None, true}
 use Rattle.gb_defs.specs.Fold.{Sum, Count}
 use Rattle.gb_tool.proofs.WordsLemmas.{strips, agg_of-sum, agg_of-count, agg_of-none}
-use Rattle.gb_tool.proofs.words.agg_of.Goals as goal
+use Rattle.gb_tool.proofs.words.given.agg_of.Goals as goal
 
 pub returns-in-Some-clause-ok : goal.returns-in-Some-clause-ok
 returns-in-Some-clause-ok c =
