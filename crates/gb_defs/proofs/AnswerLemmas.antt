@@ -1,5 +1,5 @@
 -- The answer of a grouping by one key whose column has the frame's height.
-use Rattle.std.proofs.Common.{◌≡◌, ℕ, Bool, true, false, ◌&&◌, refl, ◌∙◌, ap, List, [], ◌∷◌, map, length, Some, None, cond, eq-eqb}
+use Rattle.std.proofs.Common.{◌≡◌, ℕ, Bool, refl, ◌∙◌, ap, List, [], ◌∷◌, map, length, Some, None, eq-eqb}
 use Rattle.std.proofs.Math.Bool.{and-true}
 use Rattle.gb_defs.specs.Slot.{Slot, slot_at}
 use Rattle.gb_defs.specs.Column.{ColumnValue, Frame, find_column}
@@ -8,7 +8,7 @@ use Rattle.gb_defs.specs.Fold.{Method}
 use Rattle.gb_defs.specs.Answer.{height_of, agree_of, aggregated, answer}
 use Rattle.gb_defs.specs.Fault.{Fault, fault}
 use Rattle.gb_defs.specs.Text.{frame_text}
-use Rattle.gb_defs.specs.Outcome.{BadGroup, Report, find_columns, outcome_by_keys, answer_text}
+use Rattle.gb_defs.specs.Outcome.{BadGroup, Report, find_columns, outcome_by_keys}
 
 pub stretched_same : (height : ℕ) (key : List Slot) → length key ≡ height → stretched height key ≡ key
 stretched_same height key e = rw (eq-eqb (length key) height e)

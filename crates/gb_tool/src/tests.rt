@@ -77,12 +77,18 @@ struct Row {
     wrote: &'static str,
 }
 
-const ROWS: [Row; 8] = [
+const ROWS: [Row; 9] = [
     Row {
         words: SUMS,
         input: DAYS,
         code: 0,
         wrote: "date:str,temp_sum:i64,temp_count:u32\n2020-08-21,30,2\n2020-08-22,8,2\n2020-08-23,9,1\n",
+    },
+    Row {
+        words: "group --by k --agg sum:v",
+        input: "k:i64,v:i64\n,5\n1,6\n,7\n",
+        code: 0,
+        wrote: "k:i64,v_sum:i64\n,12\n1,6\n",
     },
     Row {
         words: "group --by k --agg sum:v",

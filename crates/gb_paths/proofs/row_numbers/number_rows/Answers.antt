@@ -1,4 +1,4 @@
-use Rattle.std.proofs.Common.{arith, ◌≡◌, length, sym, ◌∙◌}
+use Rattle.std.proofs.Common.{arith, ◌≡◌, sym, ◌∙◌}
 use Rattle.gb_defs.proofs.SlotLemmas.{slot_eq_from_Decides}
 use Rattle.gb_paths.proofs.KeyLemmas.{numbered_none, few_groups, numbered_old, numbered_new, numbered_groups, numbered_ascend}
 use Rattle.gb_paths.proofs.row_numbers.number_rows.Goals as goal

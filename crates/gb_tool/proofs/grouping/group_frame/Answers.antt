@@ -3,7 +3,7 @@ use Rattle.std.proofs.lemmas.List.{length-map}
 use Rattle.std.proofs.lemmas.Simd.{map-map}
 use Rattle.std.proofs.lemmas.Result.{err_from_is_err_and, IfOk-weaker, IfErr-weaker}
 use Rattle.smallvec.specs.SmallVec.{SmallVec}
-use Rattle.gb_defs.specs.Column.{ColumnValue, content}
+use Rattle.gb_defs.specs.Column.{content}
 use Rattle.gb_defs.specs.Classes.{groups, rows_below, same_slot}
 use Rattle.gb_cols.specs.PlSmallStr.{text_of}
 use Rattle.gb_cols.specs.PolarsError.{cause_of}
