@@ -1,6 +1,6 @@
 use Rattle.std.proofs.Common.{arith, ap, ◌∙◌, length}
 use Rattle.std.specs.List.{fold}
-use Rattle.gb_defs.specs.Hash.{hash_bytes, fold_word, words_of}
+use Rattle.gb_defs.specs.Hash.{null_hash, hash_bytes, fold_word, words_of}
 use Rattle.gb_hash.proofs.ByteLemmas.{fold_more}
 use Rattle.gb_hash.proofs.byte_hash.hash_text.Goals as goal
 
@@ -16,7 +16,9 @@ loop-word-smaller g c =
 pub loop-word-preserved : goal.loop-word-preserved
 loop-word-preserved g c =
     let cut = c.in-Some.ensures.cases in
-    fold_more (fold_word (g.M.Mixer.mix_of c.args.mixer.now)) _ _ _ _ _ _ _ cut.0 cut.1 cut.2 c.from_le_bytes.ensures c.with_word-hash.ensures c.loop-word.invariant
+    let next = fold_word (g.M.Mixer.mix_of c.args.mixer.now) in
+    let start = null_hash (g.M.Mixer.seed_of c.args.mixer.now) (g.M.Mixer.mix_of c.args.mixer.now) in
+    fold_more next _ _ _ (fold next start (words_of c.args.bytes.now)) _ _ _ cut.0 cut.1 cut.2 c.from_le_bytes.ensures c.with_word-hash.ensures c.loop-word.invariant
 
 pub returns : goal.returns
 unfolding hash_bytes
