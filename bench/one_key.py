@@ -1,5 +1,5 @@
 #!/usr/bin/env python3
-"""Time and memory of gb_tool on a text key, at growing numbers of rows.
+"""Time and memory of gb_tool on one key of texts or of numbers, at growing numbers of rows.
 
 Makes its tables with a fixed seed, checks each answer against a plain dictionary, and prints a table of
 the median seconds and of the peak memory, with the ratios that show whether both grow with the rows.
@@ -11,6 +11,8 @@ memory is ten bytes per input byte or more.
 """
 
 import argparse
+import filecmp
+import itertools
 import os
 import random
 import statistics
@@ -21,28 +23,31 @@ import time
 
 SIZES = [250_000, 500_000, 1_000_000]
 GROUPS = [100, 100_000]
+TYPES = ["str", "i64"]
 WORDS = ["group", "--by", "key", "--agg", "sum:value", "--agg", "count:value"]
 
 
-def make_table(path, rows, groups):
-    """Writes the table, and returns the text of its answer."""
+def make_table(table_path, wanted_path, dtype, rows, groups):
+    """Writes the table and the text of its answer."""
     draw = random.Random(rows * 31 + groups)
     sums, counts = {}, {}
-    with open(path, "w") as table:
-        table.write("key,other,value:i64\n")
+    with open(table_path, "w") as table:
+        table.write(f"key:{dtype},other,value:i64\n")
         for _ in range(rows):
-            key = f"g{draw.randrange(groups):06d}"
+            number = draw.randrange(groups)
+            key = f"g{number:06d}" if dtype == "str" else str(number * 7919)
             value = draw.randrange(-1_000_000, 1_000_000)
             table.write(f"{key},{draw.randrange(1000)},{value}\n")
             sums[key] = sums.get(key, 0) + value
             counts[key] = counts.get(key, 0) + 1
-    lines = [f"{key},{sums[key]},{counts[key]}\n" for key in sums]
-    return "key:str,value_sum:i64,value_count:u32\n" + "".join(lines)
+    with open(wanted_path, "w") as wanted:
+        wanted.write(f"key:{dtype},value_sum:i64,value_count:u32\n")
+        wanted.writelines(f"{key},{sums[key]},{counts[key]}\n" for key in sums)
 
 
-def run(program, path, answer_path):
+def run(program, table_path, answer_path):
     """Runs the program once: its exit status, its seconds, and its peak memory in bytes."""
-    with open(path, "rb") as table, open(answer_path, "wb") as answer:
+    with open(table_path, "rb") as table, open(answer_path, "wb") as answer:
         begin = time.monotonic()
         child = subprocess.Popen([program, *WORDS], stdin=table, stdout=answer)
         _, status, usage = os.wait4(child.pid, 0)
@@ -50,22 +55,21 @@ def run(program, path, answer_path):
     return os.waitstatus_to_exitcode(status), seconds, usage.ru_maxrss * 1024
 
 
-def measure(program, folder, rows, groups, rounds):
+def measure(program, folder, dtype, groups, rows, rounds):
     """One row of the printed table, and whether all was right."""
-    path = os.path.join(folder, "table.csv")
-    answer_path = os.path.join(folder, "answer.csv")
-    wanted = make_table(path, rows, groups)
-    size = os.path.getsize(path)
+    table, wanted, answer = (os.path.join(folder, name) for name in ("table", "wanted", "answer"))
+    # In a process of its own: the peak of a child counts what its parent held when it began.
+    subprocess.run([sys.executable, __file__, "--make", table, wanted, dtype, str(rows), str(groups)], check=True)
+    size = os.path.getsize(table)
     times, peak, right = [], 0, True
     for _ in range(rounds):
-        code, seconds, memory = run(program, path, answer_path)
-        with open(answer_path) as answer:
-            right = right and code == 0 and answer.read() == wanted
+        code, seconds, memory = run(program, table, answer)
+        right = right and code == 0 and filecmp.cmp(answer, wanted, shallow=False)
         times.append(seconds)
         peak = max(peak, memory)
     median = statistics.median(times)
     print(
-        f"| {groups} | {rows} | {size / 1e6:.1f} | {median:.3f} | {median / rows * 1e9:.0f} "
+        f"| {dtype} | {groups} | {rows} | {size / 1e6:.1f} | {median:.3f} | {median / rows * 1e9:.0f} "
         f"| {peak / 1e6:.0f} | {peak / size:.1f} | {'yes' if right else 'NO'} |",
         flush=True,
     )
@@ -76,14 +80,18 @@ def main():
     parser = argparse.ArgumentParser(description=__doc__.splitlines()[0])
     parser.add_argument("program", nargs="?", default="crates/gb_tool/out/gb_tool")
     parser.add_argument("--rounds", type=int, default=3)
+    parser.add_argument("--make", nargs=5, help=argparse.SUPPRESS)
     options = parser.parse_args()
-    print("| groups | rows | input MB | seconds | ns per row | peak MB | bytes per input byte | right |")
-    print("|---:|---:|---:|---:|---:|---:|---:|---|")
+    if options.make:
+        table, wanted, dtype, rows, groups = options.make
+        make_table(table, wanted, dtype, int(rows), int(groups))
+        return
+    print("| key | groups | rows | input MB | seconds | ns per row | peak MB | bytes per input byte | right |")
+    print("|---|---:|---:|---:|---:|---:|---:|---:|---|")
     good = True
     with tempfile.TemporaryDirectory() as folder:
-        for groups in GROUPS:
-            for rows in SIZES:
-                good = measure(options.program, folder, rows, groups, options.rounds) and good
+        for dtype, groups, rows in itertools.product(TYPES, GROUPS, SIZES):
+            good = measure(options.program, folder, dtype, groups, rows, options.rounds) and good
     sys.exit(0 if good else 1)
 
 
