@@ -6,7 +6,7 @@ use Rattle.gb_defs.specs.Column.{ColumnValue, Frame, find_column}
 use Rattle.gb_defs.specs.Classes.{agree_by, class, firsts, groups, rows_below, same_slot, stretched}
 use Rattle.gb_defs.specs.Fold.{Method}
 use Rattle.gb_defs.specs.Answer.{height_of, agree_of, aggregated, answer}
-use Rattle.gb_defs.specs.Fault.{Fault, fault}
+use Rattle.gb_defs.specs.Fault.{Fault, ColumnNotFound, fault}
 use Rattle.gb_defs.specs.Text.{frame_text}
 use Rattle.gb_defs.specs.Outcome.{BadGroup, Report, find_columns, outcome_by_keys}
 
@@ -45,10 +45,10 @@ module _ (agree : ℕ → ℕ → Bool) (rows : List ℕ) where
 
 -- what the outcome is, by the key that was found
 module _ (frame : Frame) (aggs : List (List ℕ × Method)) (null_word name : List ℕ) where
-  pub no_key : find_column frame name ≡ None → outcome_by_keys frame aggs null_word (find_columns frame (name ∷ [])) ≡ BadGroup
+  pub no_key : find_column frame name ≡ None → outcome_by_keys frame aggs null_word (find_columns frame (name ∷ [])) ≡ BadGroup (ColumnNotFound name)
   no_key e = rw e
 
-  pub faulty : (key : ColumnValue) (f : Fault) → find_column frame name ≡ Some key → fault frame (key ∷ []) aggs ≡ Some f → outcome_by_keys frame aggs null_word (find_columns frame (name ∷ [])) ≡ BadGroup
+  pub faulty : (key : ColumnValue) (f : Fault) → find_column frame name ≡ Some key → fault frame (key ∷ []) aggs ≡ Some f → outcome_by_keys frame aggs null_word (find_columns frame (name ∷ [])) ≡ BadGroup f
   faulty key f e at = rw (e, at)
 
   pub reported : (key : ColumnValue) → find_column frame name ≡ Some key → fault frame (key ∷ []) aggs ≡ None →

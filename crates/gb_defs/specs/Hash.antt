@@ -4,6 +4,7 @@ use Rattle.std.specs.Prelude.{ℕ, zero, suc, ℤ, ◌+◌, ◌*◌, ◌/◌, �
 use Rattle.std.specs.List.{fold}
 use Rattle.std.specs.Int.{Width, w64, w128, cast_unsigned, from_le_bytes, div_ceil}
 use Rattle.gb_defs.specs.Slot.{Slot, Nil, Num, Bytes, Items}
+use Rattle.gb_defs.specs.ColumnType.{ColumnType, Flat, Unsigned, Signed, Decimal}
 
 -- x xor (x >> k)
 abbrev pub fold_down : ℕ → ℕ → ℕ
@@ -58,6 +59,13 @@ hash_of width seed mix Nil = null_hash seed mix
 hash_of width seed mix (Num n) = hash_number width seed mix n
 hash_of width seed mix (Bytes bytes) = hash_bytes seed mix bytes
 hash_of width seed mix (Items slots) = null_hash seed mix
+
+-- the width of a type's numbers; 64 bits serve where there are none
+abbrev pub hash_width : ColumnType → Width
+hash_width (Flat (Unsigned w)) = w
+hash_width (Flat (Signed w)) = w
+hash_width (Flat (Decimal precision scale)) = w128
+hash_width _ = w64
 
 -- both halves of the product of 128 bits
 unfoldable pub folded_multiply : ℕ → ℕ → ℕ

@@ -4,8 +4,11 @@ pub mod Order
 pub mod Column
 pub mod Classes
 pub mod Fold
+pub mod Flat
 pub mod Groups
 pub mod Hash
+pub mod Partitions
+pub mod Path
 pub mod Answer
 pub mod Fault
 pub mod TypeWord

@@ -1,8 +1,13 @@
 //! What the definitions of hashes give on worked words: each clause is an equation that computes.
 
-ghost use Rattle.std.specs.Prelude.{◌≡◌, ◌+◌, ◌-◌, ◌^◌, codes, negsuc, pos};
+ghost use Rattle.std.specs.Prelude.{◌≡◌, ◌+◌, ◌-◌, ◌^◌, [], ◌∷◌, codes, false, negsuc, pos, true};
 ghost use Rattle.std.specs.Int.{w32, w64, w128};
 ghost use Rattle.gb_defs.specs.Slot.{Nil, Num, Bytes};
+ghost use Rattle.gb_defs.specs.ColumnType.{int64, text};
+ghost use Rattle.gb_defs.specs.Classes.{rows_below, same_slot};
+ghost use Rattle.gb_defs.specs.Partitions.{threaded_groups};
+ghost use Rattle.gb_defs.specs.Path.{path_of, Table, Threaded};
+ghost use Rattle.gb_defs.specs.Worked.{least_and_zero, unmixed};
 ghost use Rattle.gb_defs.specs.Hash.{seed_mix, hash_of, folded_multiply, boost_combine, partition_of};
 
 /// A word mixed, and slots hashed under the seed 7, or with no mixing.
@@ -27,4 +32,20 @@ pub fn words()
     ensures second_of_three { partition_of (2 ^ 63) 3 ≡ 1 }
     ensures last_of_four { partition_of (2 ^ 64 - 1) 4 ≡ 3 }
     ensures first_of_seven { partition_of 0 7 ≡ 0 }
+{}
+
+/// Groups by partitions: the rows hold the least number, 0 and the least number, whose bits are their
+/// hashes.
+pub fn partitions()
+    ensures by_partition { threaded_groups (same_slot least_and_zero) (unmixed least_and_zero) 2 false (rows_below 3) ≡ (1, 1 ∷ []) ∷ (0, 0 ∷ 2 ∷ []) ∷ [] }
+    ensures by_first_row { threaded_groups (same_slot least_and_zero) (unmixed least_and_zero) 2 true (rows_below 3) ≡ (0, 0 ∷ 2 ∷ []) ∷ (1, 1 ∷ []) ∷ [] }
+{}
+
+/// The path of a key.
+pub fn paths()
+    ensures text_key { path_of text true 2 1000 0 ≡ Threaded }
+    ensures long_number_key { path_of int64 true 2 1000 1001 ≡ Threaded }
+    ensures short_number_key { path_of int64 true 2 1000 1000 ≡ Table }
+    ensures one_worker { path_of text true 1 1000 2000 ≡ Table }
+    ensures not_asked { path_of text false 2 1000 2000 ≡ Table }
 {}

@@ -6,4 +6,5 @@
 
 pub mod hashes;
 pub mod plain;
+pub mod ranges;
 pub mod worked;

@@ -3,6 +3,7 @@
 ghost use Rattle.std.specs.Prelude.{◌≡◌, codes, [], ◌∷◌, Some, None};
 ghost use Rattle.gb_defs.specs.Outcome.{outcome, Report, BadTable, BadGroup};
 ghost use Rattle.gb_defs.specs.Request.{request, Group, default_options};
+ghost use Rattle.gb_defs.specs.Fault.{ColumnNotFound, InvalidOperation, OfSum};
 ghost use Rattle.gb_defs.specs.Fold.{Sum};
 ghost use Rattle.gb_defs.specs.Worked.{sums_by_date, sums_by_key, keys_alone, by_day, two_workers, null_by};
 
@@ -34,6 +35,7 @@ pub fn outcomes()
     ensures no_header { outcome keys_alone (codes "") ≡ BadTable }
     ensures unread_type { outcome keys_alone (codes "k,v:i32\n") ≡ BadTable }
     ensures other_word { outcome keys_alone (codes "k,x:foo\na,b\n") ≡ Report (codes "k:str\na\n") }
-    ensures missing_key { outcome by_day (codes "date,temp:i64\n2020-08-21,20\n") ≡ BadGroup }
-    ensures text_sum { outcome sums_by_key (codes "k,v\na,b\n") ≡ BadGroup }
+    ensures missing_key { outcome by_day (codes "date,temp:i64\n2020-08-21,20\n") ≡ BadGroup (ColumnNotFound (codes "day")) }
+    ensures text_sum { outcome sums_by_key (codes "k,v\na,b\n") ≡ BadGroup (InvalidOperation OfSum (codes "v")) }
+    ensures missing_column { outcome sums_by_key (codes "k\na\n") ≡ BadGroup (ColumnNotFound (codes "v")) }
 {}

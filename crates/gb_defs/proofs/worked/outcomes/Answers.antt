@@ -72,3 +72,7 @@ returns-clause-missing_key c = refl
 pub returns-clause-text_sum : goal.returns-clause-text_sum
 unfolding outcome table records_from next_record strip_bom head_of type_words cell_slot is_utf8 fault answer firsts is_first class fold_picked frame_text int_wrap escaped fields_text is_blank chars encode digits
 returns-clause-text_sum c = refl
+
+pub returns-clause-missing_column : goal.returns-clause-missing_column
+unfolding outcome table records_from next_record strip_bom head_of type_words cell_slot is_utf8 fault answer firsts is_first class fold_picked frame_text int_wrap escaped fields_text is_blank chars encode digits
+returns-clause-missing_column c = refl

@@ -1,0 +1,151 @@
+-- The groups of the partitions, and what they are in the order of their first rows.
+use Rattle.std.proofs.Common.{◌≡◌, ℕ, ◌+◌, ◌<◌, ◌≤◌, zero, suc, Bool, true, not, ◌&&◌, cond, inl, inr, List, [], ◌∷◌, ◌++◌, map, filter, refl, sym, ◌∙◌, ap, arith, nat_lt, eqb, zero-add}
+use Rattle.std.specs.Prelude.{flat_map}
+use Rattle.std.specs.List.{list_any, range_with_len, AllByRecursion}
+use Rattle.std.proofs.lemmas.Bool.{cases_Bool, cases_lt, cases_order, and_parts, eq-eqb, le-ltb, lt-ltb, ne_eqb}
+use Rattle.std.proofs.lemmas.List.{append-nil, map-append}
+use Rattle.std.proofs.lemmas.List.Elements.{filter-append}
+use Rattle.gb_defs.specs.Classes.{class, is_first, firsts, groups}
+use Rattle.gb_defs.specs.Hash.{partition_of}
+use Rattle.gb_defs.specs.Partitions.{by_partition, in_partition, partition_groups}
+
+-- one filter after another
+filter_filter : (p q : ℕ → Bool) (xs : List ℕ) → filter p (filter q xs) ≡ filter q (filter p xs)
+filter_filter p q [] = refl
+filter_filter p q (x ∷ xs) = elim (cases_Bool (p x)) [
+  | inl a ↦ elim (cases_Bool (q x)) [ inl b ↦ rw (a, b, a, filter_filter p q xs) | inr b ↦ rw (a, b, filter_filter p q xs) ]
+  | inr a ↦ elim (cases_Bool (q x)) [ inl b ↦ rw (a, b, a, filter_filter p q xs) | inr b ↦ rw (a, b, filter_filter p q xs) ]
+]
+
+-- what does not pass p is not needed where p implies q
+filter_within : (p q : ℕ → Bool) → ((x : ℕ) → p x ≡ true → q x ≡ true) → (xs : List ℕ) → filter p (filter q xs) ≡ filter p xs
+filter_within p q h [] = refl
+filter_within p q h (x ∷ xs) = elim (cases_Bool (p x)) [
+  | inl a ↦ rw (h x a, a, filter_within p q h xs)
+  | inr a ↦ elim (cases_Bool (q x)) [ inl b ↦ rw (b, a, filter_within p q h xs) | inr b ↦ rw (b, a, filter_within p q h xs) ]
+]
+
+any_within : (p q : ℕ → Bool) → ((x : ℕ) → p x ≡ true → q x ≡ true) → (xs : List ℕ) → list_any p (filter q xs) ≡ list_any p xs
+any_within p q h [] = refl
+any_within p q h (x ∷ xs) = elim (cases_Bool (p x)) [
+  | inl a ↦ rw (h x a, a)
+  | inr a ↦ elim (cases_Bool (q x)) [ inl b ↦ rw (b, a, any_within p q h xs) | inr b ↦ rw (b, a, any_within p q h xs) ]
+]
+
+-- two tests that agree where q passes keep the same of what passes q
+filter_agree_where : (p r q : ℕ → Bool) → ((x : ℕ) → q x ≡ true → p x ≡ r x) → (xs : List ℕ) → filter p (filter q xs) ≡ filter r (filter q xs)
+filter_agree_where p r q h [] = refl
+filter_agree_where p r q h (x ∷ xs) = elim (cases_Bool (q x)) [
+  | inl b ↦ rw (b, h x b, filter_agree_where p r q h xs)
+  | inr b ↦ rw (b, filter_agree_where p r q h xs)
+]
+
+map_agree_where : {X : Type 0} (f g : ℕ → X) (q : ℕ → Bool) → ((x : ℕ) → q x ≡ true → f x ≡ g x) → (xs : List ℕ) → map f (filter q xs) ≡ map g (filter q xs)
+map_agree_where f g q h [] = refl
+map_agree_where f g q h (x ∷ xs) = elim (cases_Bool (q x)) [
+  | inl b ↦ rw (b, h x b, map_agree_where f g q h xs)
+  | inr b ↦ rw (b, map_agree_where f g q h xs)
+]
+
+-- ---- the groups of some rows, where rows that agree are of them together
+
+module _ (agree : ℕ → ℕ → Bool) (q : ℕ → Bool) (together : (i j : ℕ) → agree i j ≡ true → q i ≡ true → q j ≡ true) where
+  class_of_some : (rows : List ℕ) (i : ℕ) → q i ≡ true → class agree (filter q rows) i ≡ class agree rows i
+  unfolding class
+  class_of_some rows i h = filter_within (agree i) q (λ j e. together i j e h) rows
+
+  first_of_some : (rows : List ℕ) (i : ℕ) → q i ≡ true → is_first agree (filter q rows) i ≡ is_first agree rows i
+  unfolding is_first
+  first_of_some rows i h = ap not (any_within (λ j. nat_lt j i && agree i j) q (λ j e. together i j (and_parts (nat_lt j i) (agree i j) e).1 h) rows)
+
+  firsts_of_some : (rows : List ℕ) → firsts agree (filter q rows) ≡ filter q (firsts agree rows)
+  unfolding firsts
+  firsts_of_some rows = filter_agree_where (is_first agree (filter q rows)) (is_first agree rows) q (first_of_some rows) rows ∙ filter_filter (is_first agree rows) q rows
+
+  -- they are the groups whose first row is of them
+  pub groups_of_some : (rows : List ℕ) → groups agree (filter q rows) ≡ map (λ i. (i, class agree rows i)) (filter q (firsts agree rows))
+  unfolding groups
+  groups_of_some rows = ap (map (λ i. (i, class agree (filter q rows) i))) (firsts_of_some rows)
+      ∙ map_agree_where (λ i. (i, class agree (filter q rows) i)) (λ i. (i, class agree rows i)) q (λ i h. ap (λ c. (i, c)) (class_of_some rows i h)) (firsts agree rows)
+
+-- ---- all partitions, one after another
+
+map_flat_map : {X : Type 0} (f : ℕ → X) (g : ℕ → List ℕ) (ps : List ℕ) → map f (flat_map g ps) ≡ flat_map (λ p. map f (g p)) ps
+map_flat_map f g [] = refl
+map_flat_map f g (p ∷ ps) = map-append f (g p) (flat_map g ps) ∙ ap (λ xs. map f (g p) ++ xs) (map_flat_map f g ps)
+
+flat_map_same : {X : Type 0} (f g : ℕ → List X) → ((p : ℕ) → f p ≡ g p) → (ps : List ℕ) → flat_map f ps ≡ flat_map g ps
+flat_map_same f g h [] = refl
+flat_map_same f g h (p ∷ ps) = rw (h p, flat_map_same f g h ps)
+
+-- the groups of each partition make the groups by partition
+pub partitions_united : (agree : ℕ → ℕ → Bool) (hash : ℕ → ℕ) (n : ℕ) (rows : List ℕ) → ((i j : ℕ) → agree i j ≡ true → hash i ≡ hash j) →
+    flat_map (λ p. groups agree (filter (in_partition hash n p) rows)) (range_with_len 0 n) ≡ partition_groups agree hash n rows
+unfolding partition_groups by_partition
+partitions_united agree hash n rows alike =
+    let mk : ℕ → ℕ × List ℕ = λ i. (i, class agree rows i) in
+    flat_map_same _ _ (λ p. groups_of_some agree (in_partition hash n p) (λ i j same here. ap (λ h. eqb (partition_of h n) p) (sym (alike i j same)) ∙ here) rows) (range_with_len 0 n)
+    ∙ sym (map_flat_map mk (λ p. filter (in_partition hash n p) (firsts agree rows)) (range_with_len 0 n))
+
+-- ---- one row stands in one partition
+
+module _ (t : ℕ → Bool) (k : ℕ) (one : (x : ℕ) → t x ≡ true → x ≡ k) where
+  -- what passes the test is in the list of its partition alone
+  filter_one : (q : ℕ → Bool) (xs : List ℕ) → filter t (filter q xs) ≡ cond (q k) (filter t xs) []
+  filter_one q [] = elim (cases_Bool (q k)) [ inl e ↦ rw e | inr e ↦ rw e ]
+  filter_one q (x ∷ xs) = elim (cases_Bool (t x)) [
+    | inl a ↦ elim (cases_Bool (q k)) [
+      | inl b ↦ rw (ap q (one x a) ∙ b, a, filter_one q xs, b)
+      | inr b ↦ rw (ap q (one x a) ∙ b, filter_one q xs, b)
+    ]
+    | inr a ↦ elim (cases_Bool (q x)) [ inl b ↦ rw (b, a, filter_one q xs) | inr b ↦ rw (b, a, filter_one q xs) ]
+  ]
+
+  filter_flat_map : (g : ℕ → List ℕ) (ps : List ℕ) → filter t (flat_map g ps) ≡ flat_map (λ p. filter t (g p)) ps
+  filter_flat_map g [] = refl
+  filter_flat_map g (p ∷ ps) = filter-append t (g p) (flat_map g ps) ∙ ap (λ xs. filter t (g p) ++ xs) (filter_flat_map g ps)
+
+  -- the lists of m partitions from a on, where k stands in one of them or in none
+  one_list : (f : ℕ → ℕ) (list : List ℕ) (a m : ℕ) → flat_map (λ p. cond (eqb (f k) p) list []) (range_with_len a m) ≡ cond (not (nat_lt (f k) a) && nat_lt (f k) (a + m)) list []
+  one_list f list a zero = elim (cases_lt (f k) a) [
+    | inl low ↦ rw (lt-ltb (f k) a low)
+    | inr high ↦ let far : a + 0 ≤ f k = omega (arith, high) in rw (le-ltb (f k) a high, le-ltb (f k) (a + 0) far)
+  ]
+  one_list f list a (suc m) =
+      let on : a + 1 + m ≡ a + suc m = omega arith in
+      elim (cases_order (f k) a) [
+        | inl here ↦
+            let low : f k < a + 1 = omega (arith, here) in
+            let inside : f k < a + suc m = omega (arith, here) in
+            let reached : a ≤ f k = omega (arith, here) in
+            rw (eq-eqb (f k) a here, one_list f list (a + 1) m, lt-ltb (f k) (a + 1) low, lt-ltb (f k) (a + suc m) inside, le-ltb (f k) a reached, append-nil)
+        | inr apart ↦ elim apart [
+          | inl below ↦
+              let low : f k < a + 1 = omega (arith, below) in
+              rw (ne_eqb (f k) a (λ e. omega (arith, below, e)), one_list f list (a + 1) m, lt-ltb (f k) (a + 1) low, lt-ltb (f k) a below)
+          | inr above ↦
+              let high : a + 1 ≤ f k = omega (arith, above) in
+              let reached : a ≤ f k = omega (arith, above) in
+              rw (ne_eqb (f k) a (λ e. omega (arith, above, e)), one_list f list (a + 1) m, on, le-ltb (f k) (a + 1) high, le-ltb (f k) a reached)
+        ]
+      ]
+
+  filter_absent : (f : ℕ → ℕ) (n : ℕ) (rows : List ℕ) → n ≤ f k → AllByRecursion (λ i. f i < n) rows → filter t rows ≡ []
+  filter_absent f n [] out h = refl
+  filter_absent f n (x ∷ xs) out h = elim (cases_Bool (t x)) [
+    | inl a ↦ absurd (omega (arith, out, h.0, ap f (one x a)))
+    | inr a ↦ rw (a, filter_absent f n xs out h.1)
+  ]
+
+  -- what passes the test is there as often as among the rows
+  pub picked_once : (hash : ℕ → ℕ) (n : ℕ) (rows : List ℕ) → AllByRecursion (λ i. partition_of (hash i) n < n) rows → filter t (by_partition hash n rows) ≡ filter t rows
+  unfolding by_partition
+  picked_once hash n rows within =
+      let reached : 0 ≤ partition_of (hash k) n = omega arith in
+      filter_flat_map (λ p. filter (in_partition hash n p) rows) (range_with_len 0 n)
+      ∙ flat_map_same _ _ (λ p. filter_one (in_partition hash n p) rows) (range_with_len 0 n)
+      ∙ one_list (λ i. partition_of (hash i) n) (filter t rows) 0 n
+      ∙ elim (cases_lt (partition_of (hash k) n) n) [
+        | inl inside ↦ rw (zero-add n, le-ltb (partition_of (hash k) n) 0 reached, lt-ltb (partition_of (hash k) n) n inside)
+        | inr outside ↦ rw (zero-add n, le-ltb (partition_of (hash k) n) 0 reached, le-ltb (partition_of (hash k) n) n outside) (sym (filter_absent (λ i. partition_of (hash i) n) n rows outside within))
+      ]
