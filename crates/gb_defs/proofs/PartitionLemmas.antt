@@ -4,9 +4,10 @@ use Rattle.std.specs.Prelude.{flat_map}
 use Rattle.std.specs.List.{list_any, range_with_len, AllByRecursion}
 use Rattle.std.proofs.lemmas.Bool.{cases_Bool, cases_lt, cases_order, and_parts, eq-eqb, le-ltb, lt-ltb, ne_eqb}
 use Rattle.std.proofs.lemmas.List.{append-nil, map-append}
-use Rattle.std.proofs.lemmas.List.Elements.{filter-append}
-use Rattle.gb_defs.specs.Classes.{class, is_first, firsts, groups}
+use Rattle.std.proofs.lemmas.List.Elements.{All-filter, All-from_recursion, filter-append, recursion_from_All}
+use Rattle.gb_defs.specs.Classes.{class, is_first, firsts, groups, rows_below}
 use Rattle.gb_defs.specs.Hash.{partition_of}
+use Rattle.gb_defs.proofs.ClassesLemmas.{rows_below_all}
 use Rattle.gb_defs.specs.Partitions.{by_partition, in_partition, partition_groups}
 
 -- one filter after another
@@ -17,56 +18,62 @@ filter_filter p q (x ∷ xs) = elim (cases_Bool (p x)) [
   | inr a ↦ elim (cases_Bool (q x)) [ inl b ↦ rw (a, b, a, filter_filter p q xs) | inr b ↦ rw (a, b, filter_filter p q xs) ]
 ]
 
--- what does not pass p is not needed where p implies q
-filter_within : (p q : ℕ → Bool) → ((x : ℕ) → p x ≡ true → q x ≡ true) → (xs : List ℕ) → filter p (filter q xs) ≡ filter p xs
-filter_within p q h [] = refl
-filter_within p q h (x ∷ xs) = elim (cases_Bool (p x)) [
-  | inl a ↦ rw (h x a, a, filter_within p q h xs)
-  | inr a ↦ elim (cases_Bool (q x)) [ inl b ↦ rw (b, a, filter_within p q h xs) | inr b ↦ rw (b, a, filter_within p q h xs) ]
+-- what does not pass p is not needed where p implies q, for rows below n
+filter_within : (n : ℕ) (p q : ℕ → Bool) → ((x : ℕ) → x < n → p x ≡ true → q x ≡ true) → (xs : List ℕ) → AllByRecursion (λ x. x < n) xs → filter p (filter q xs) ≡ filter p xs
+filter_within n p q h [] below = refl
+filter_within n p q h (x ∷ xs) below = elim (cases_Bool (p x)) [
+  | inl a ↦ rw (h x below.0 a, a, filter_within n p q h xs below.1)
+  | inr a ↦ elim (cases_Bool (q x)) [ inl b ↦ rw (b, a, filter_within n p q h xs below.1) | inr b ↦ rw (b, a, filter_within n p q h xs below.1) ]
 ]
 
-any_within : (p q : ℕ → Bool) → ((x : ℕ) → p x ≡ true → q x ≡ true) → (xs : List ℕ) → list_any p (filter q xs) ≡ list_any p xs
-any_within p q h [] = refl
-any_within p q h (x ∷ xs) = elim (cases_Bool (p x)) [
-  | inl a ↦ rw (h x a, a)
-  | inr a ↦ elim (cases_Bool (q x)) [ inl b ↦ rw (b, a, any_within p q h xs) | inr b ↦ rw (b, a, any_within p q h xs) ]
+any_within : (n : ℕ) (p q : ℕ → Bool) → ((x : ℕ) → x < n → p x ≡ true → q x ≡ true) → (xs : List ℕ) → AllByRecursion (λ x. x < n) xs → list_any p (filter q xs) ≡ list_any p xs
+any_within n p q h [] below = refl
+any_within n p q h (x ∷ xs) below = elim (cases_Bool (p x)) [
+  | inl a ↦ rw (h x below.0 a, a)
+  | inr a ↦ elim (cases_Bool (q x)) [ inl b ↦ rw (b, a, any_within n p q h xs below.1) | inr b ↦ rw (b, a, any_within n p q h xs below.1) ]
 ]
 
 -- two tests that agree where q passes keep the same of what passes q
-filter_agree_where : (p r q : ℕ → Bool) → ((x : ℕ) → q x ≡ true → p x ≡ r x) → (xs : List ℕ) → filter p (filter q xs) ≡ filter r (filter q xs)
-filter_agree_where p r q h [] = refl
-filter_agree_where p r q h (x ∷ xs) = elim (cases_Bool (q x)) [
-  | inl b ↦ rw (b, h x b, filter_agree_where p r q h xs)
-  | inr b ↦ rw (b, filter_agree_where p r q h xs)
+filter_agree_where : (n : ℕ) (p r q : ℕ → Bool) → ((x : ℕ) → x < n → q x ≡ true → p x ≡ r x) → (xs : List ℕ) → AllByRecursion (λ x. x < n) xs → filter p (filter q xs) ≡ filter r (filter q xs)
+filter_agree_where n p r q h [] below = refl
+filter_agree_where n p r q h (x ∷ xs) below = elim (cases_Bool (q x)) [
+  | inl b ↦ rw (b, h x below.0 b, filter_agree_where n p r q h xs below.1)
+  | inr b ↦ rw (b, filter_agree_where n p r q h xs below.1)
 ]
 
-map_agree_where : {X : Type 0} (f g : ℕ → X) (q : ℕ → Bool) → ((x : ℕ) → q x ≡ true → f x ≡ g x) → (xs : List ℕ) → map f (filter q xs) ≡ map g (filter q xs)
-map_agree_where f g q h [] = refl
-map_agree_where f g q h (x ∷ xs) = elim (cases_Bool (q x)) [
-  | inl b ↦ rw (b, h x b, map_agree_where f g q h xs)
-  | inr b ↦ rw (b, map_agree_where f g q h xs)
+map_agree_where : {X : Type 0} (n : ℕ) (f g : ℕ → X) (q : ℕ → Bool) → ((x : ℕ) → x < n → q x ≡ true → f x ≡ g x) → (xs : List ℕ) → AllByRecursion (λ x. x < n) xs → map f (filter q xs) ≡ map g (filter q xs)
+map_agree_where n f g q h [] below = refl
+map_agree_where n f g q h (x ∷ xs) below = elim (cases_Bool (q x)) [
+  | inl b ↦ rw (b, h x below.0 b, map_agree_where n f g q h xs below.1)
+  | inr b ↦ rw (b, map_agree_where n f g q h xs below.1)
 ]
 
--- ---- the groups of some rows, where rows that agree are of them together
+-- ---- the groups of some rows below n, where rows that agree are of them together
 
-module _ (agree : ℕ → ℕ → Bool) (q : ℕ → Bool) (together : (i j : ℕ) → agree i j ≡ true → q i ≡ true → q j ≡ true) where
-  class_of_some : (rows : List ℕ) (i : ℕ) → q i ≡ true → class agree (filter q rows) i ≡ class agree rows i
-  unfolding class
-  class_of_some rows i h = filter_within (agree i) q (λ j e. together i j e h) rows
+module _ (agree : ℕ → ℕ → Bool) (n : ℕ) (q : ℕ → Bool) (together : (i j : ℕ) → i < n → j < n → agree i j ≡ true → q i ≡ true → q j ≡ true) where
+  module _ (rows : List ℕ) (below : AllByRecursion (λ j. j < n) rows) where
+    class_of_some : (i : ℕ) → i < n → q i ≡ true → class agree (filter q rows) i ≡ class agree rows i
+    unfolding class
+    class_of_some i lt h = filter_within n (agree i) q (λ j inside e. together i j lt inside e h) rows below
 
-  first_of_some : (rows : List ℕ) (i : ℕ) → q i ≡ true → is_first agree (filter q rows) i ≡ is_first agree rows i
-  unfolding is_first
-  first_of_some rows i h = ap not (any_within (λ j. nat_lt j i && agree i j) q (λ j e. together i j (and_parts (nat_lt j i) (agree i j) e).1 h) rows)
+    first_of_some : (i : ℕ) → i < n → q i ≡ true → is_first agree (filter q rows) i ≡ is_first agree rows i
+    unfolding is_first
+    first_of_some i lt h =
+        ap not (any_within n (λ j. nat_lt j i && agree i j) q (λ j inside e. together i j lt inside (and_parts (nat_lt j i) (agree i j) e).1 h) rows below)
 
-  firsts_of_some : (rows : List ℕ) → firsts agree (filter q rows) ≡ filter q (firsts agree rows)
-  unfolding firsts
-  firsts_of_some rows = filter_agree_where (is_first agree (filter q rows)) (is_first agree rows) q (first_of_some rows) rows ∙ filter_filter (is_first agree rows) q rows
+    firsts_of_some : firsts agree (filter q rows) ≡ filter q (firsts agree rows)
+    unfolding firsts
+    firsts_of_some = filter_agree_where n (is_first agree (filter q rows)) (is_first agree rows) q first_of_some rows below ∙ filter_filter (is_first agree rows) q rows
 
-  -- they are the groups whose first row is of them
-  pub groups_of_some : (rows : List ℕ) → groups agree (filter q rows) ≡ map (λ i. (i, class agree rows i)) (filter q (firsts agree rows))
-  unfolding groups
-  groups_of_some rows = ap (map (λ i. (i, class agree (filter q rows) i))) (firsts_of_some rows)
-      ∙ map_agree_where (λ i. (i, class agree (filter q rows) i)) (λ i. (i, class agree rows i)) q (λ i h. ap (λ c. (i, c)) (class_of_some rows i h)) (firsts agree rows)
+    firsts_within : AllByRecursion (λ j. j < n) (firsts agree rows)
+    unfolding firsts
+    firsts_within = recursion_from_All (λ j. j < n) _ (All-filter (is_first agree rows) (λ j. j < n) rows (All-from_recursion (λ j. j < n) rows below))
+
+    -- they are the groups whose first row is of them
+    pub groups_of_some : groups agree (filter q rows) ≡ map (λ i. (i, class agree rows i)) (filter q (firsts agree rows))
+    unfolding groups
+    groups_of_some = ap (map (λ i. (i, class agree (filter q rows) i))) firsts_of_some
+        ∙ map_agree_where n (λ i. (i, class agree (filter q rows) i)) (λ i. (i, class agree rows i)) q (λ i lt h. ap (λ c. (i, c)) (class_of_some i lt h)) (firsts agree rows) firsts_within
 
 -- ---- all partitions, one after another
 
@@ -79,13 +86,14 @@ flat_map_same f g h [] = refl
 flat_map_same f g h (p ∷ ps) = rw (h p, flat_map_same f g h ps)
 
 -- the groups of each partition make the groups by partition
-pub partitions_united : (agree : ℕ → ℕ → Bool) (hash : ℕ → ℕ) (n : ℕ) (rows : List ℕ) → ((i j : ℕ) → agree i j ≡ true → hash i ≡ hash j) →
-    flat_map (λ p. groups agree (filter (in_partition hash n p) rows)) (range_with_len 0 n) ≡ partition_groups agree hash n rows
+pub partitions_united : (agree : ℕ → ℕ → Bool) (hash : ℕ → ℕ) (n count : ℕ) → ((i j : ℕ) → i < count → j < count → agree i j ≡ true → hash i ≡ hash j) →
+    flat_map (λ p. groups agree (filter (in_partition hash n p) (rows_below count))) (range_with_len 0 n) ≡ partition_groups agree hash n (rows_below count)
 unfolding partition_groups by_partition
-partitions_united agree hash n rows alike =
-    let mk : ℕ → ℕ × List ℕ = λ i. (i, class agree rows i) in
-    flat_map_same _ _ (λ p. groups_of_some agree (in_partition hash n p) (λ i j same here. ap (λ h. eqb (partition_of h n) p) (sym (alike i j same)) ∙ here) rows) (range_with_len 0 n)
-    ∙ sym (map_flat_map mk (λ p. filter (in_partition hash n p) (firsts agree rows)) (range_with_len 0 n))
+partitions_united agree hash n count alike =
+    let rows = rows_below count in
+    let one : ℕ → ℕ × List ℕ = λ i. (i, class agree rows i) in
+    flat_map_same _ _ (λ p. groups_of_some agree count (in_partition hash n p) (λ i j low high same here. ap (λ h. eqb (partition_of h n) p) (sym (alike i j low high same)) ∙ here) rows (rows_below_all count)) (range_with_len 0 n)
+    ∙ sym (map_flat_map one (λ p. filter (in_partition hash n p) (firsts agree rows)) (range_with_len 0 n))
 
 -- ---- one row stands in one partition
 

@@ -1,2 +1,3 @@
-pub mod KeyLemmas
+pub mod MemberLemmas
 pub mod NumberLemmas
+pub mod PartitionLemmas

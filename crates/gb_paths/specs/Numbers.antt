@@ -1,6 +1,7 @@
 -- Rows by the numbers of their groups.
-use Rattle.std.specs.Prelude.{◌≡◌, ℕ, Bool, ◌+◌, ◌≤◌, ◌==◌, List, [], ◌∷◌, cond, map, count_by}
+use Rattle.std.specs.Prelude.{◌≡◌, ℕ, Bool, ◌<◌, ◌≤◌, ◌==◌, List, [], ◌∷◌, All, cond, map, count_by}
 use Rattle.std.specs.List.{range_with_len}
+use Rattle.std.specs.List.Sorted.{IsStrictlyIncreasing}
 use Rattle.gb_defs.specs.Slot.{Slot, slot_eq}
 use Rattle.smallvec.specs.SmallVec.{SmallVec}
 
@@ -8,14 +9,20 @@ use Rattle.smallvec.specs.SmallVec.{SmallVec}
 abbrev pub same_slot_at : (ℕ → Slot) → ℕ → ℕ → Bool
 same_slot_at slot i j = slot_eq (slot i) (slot j)
 
--- of rows that begin at `row` and have these numbers, those with number k
-unfoldable pub rows_from : ℕ → List ℕ → ℕ → List ℕ
-rows_from row [] k = []
-rows_from row (number ∷ numbers) k = cond (number == k) (row ∷ rows_from (row + 1) numbers k) (rows_from (row + 1) numbers k)
+-- some of the rows below n, ascending
+pub record AreMembers (n : ℕ) (rows : List ℕ) : Type 0 where
+  pub below : All (λ row. row < n) rows
+  pub ascend : IsStrictlyIncreasing rows
+
+-- of rows that have a number each, those with number k
+unfoldable pub rows_of : List ℕ → List ℕ → ℕ → List ℕ
+rows_of [] numbers k = []
+rows_of (row ∷ rows) [] k = []
+rows_of (row ∷ rows) (number ∷ numbers) k = cond (number == k) (row ∷ rows_of rows numbers k) (rows_of rows numbers k)
 
 -- the rows of each group
-abbrev pub lists_by : List ℕ → ℕ → List (List ℕ)
-lists_by numbers groups = map (rows_from 0 numbers) (range_with_len 0 groups)
+abbrev pub lists_by : List ℕ → List ℕ → ℕ → List (List ℕ)
+lists_by rows numbers groups = map (rows_of rows numbers) (range_with_len 0 groups)
 
 -- how many rows have number k
 abbrev pub count_of : List ℕ → ℕ → ℕ

@@ -7,8 +7,8 @@ ghost use Rattle.gb_cols.specs.PlSmallStr.{IsNoMemory};
 ghost use Rattle.gb_groups.specs.GroupsType.{groups_of};
 ghost use Rattle.gb_paths.specs.Numbers.{same_slot_at};
 
-use crate::row_lists::row_lists;
-use crate::row_numbers::number_rows;
+use crate::row_groups::group_members;
+use crate::row_hashes::{all_rows, hash_rows};
 use gb_cols::error::PolarsResult;
 use gb_groups::groups_idx::GroupsIdx;
 use gb_groups::groups_type::GroupsType;
@@ -32,9 +32,10 @@ pub fn group_by<R: KeyRows, L: Ledger>(
     ensures steps { OnOk result (steps.new ≡ steps.old + R.row_count rows.now) }
     ensures steps_at_most { steps.new ≤ steps.old + R.row_count rows.now }
 {
-    let found = number_rows(alloc, rows, steps)?;
-    let lists = row_lists(alloc, found.numbers.as_slice(), found.first.len())?;
-    Ok(GroupsType::from(GroupsIdx::new(found.first, lists, sorted)))
+    let hashes = hash_rows(alloc, rows)?;
+    let members = all_rows(alloc, rows.len())?;
+    let groups = group_members(alloc, rows, members.as_slice(), hashes.as_slice(), steps)?;
+    Ok(GroupsType::from(GroupsIdx::new(groups.first, groups.all, sorted)))
 }
 
 // `group_by`, with a counter of its own.

@@ -4,5 +4,9 @@
 
 pub mod group_by;
 pub mod into_groups;
+mod partitions;
+mod row_groups;
+mod row_hashes;
 mod row_lists;
 mod row_numbers;
+pub mod threaded;

@@ -1,4 +1,4 @@
-//! The rows of each group, from each row's number. Each list is made with its exact room.
+//! The rows of each group, from the number of each row. Each list is made with its exact room.
 
 ghost use Rattle.std.specs.Prelude.{◌≡◌, ℕ, ◌<◌, ◌^◌, length, IfOk, slice_index};
 ghost use Rattle.std.specs.List.{All, AllZip};
@@ -9,15 +9,21 @@ use gb_groups::groups_idx::IdxVec;
 use smallvec::SmallVec;
 use std::alloc::{AllocError, Global};
 
-/// The rows of each group, ascending.
-pub fn row_lists(alloc: Global, numbers: &[u32], groups: usize) -> Result<Vec<IdxVec>, AllocError>
+/// The rows of each group, in their order.
+pub fn row_lists(
+    alloc: Global,
+    rows: &[u32],
+    numbers: &[u32],
+    groups: usize,
+) -> Result<Vec<IdxVec>, AllocError>
+    requires each { length numbers.now ≡ length rows.now }
     requires few { length numbers.now < 2 ^ 32 }
     requires known { All (λ number. number < groups) numbers.now }
-    ensures { IfOk result (λ lists. lists_of lists.items ≡ lists_by numbers.now groups) }
+    ensures { IfOk result (λ lists. lists_of lists.items ≡ lists_by rows.now numbers.now groups) }
 {
     let counts = row_counts(alloc, numbers, groups)?;
     let mut lists = empty_lists(alloc, counts.as_slice())?;
-    fill_lists(lists.as_mut_slice(), numbers);
+    fill_lists(lists.as_mut_slice(), rows, numbers);
     Ok(lists)
 }
 
@@ -56,13 +62,13 @@ fn empty_lists(alloc: Global, counts: &[u32]) -> Result<Vec<IdxVec>, AllocError>
 }
 
 // Puts each row into the list of its group.
-fn fill_lists(lists: &mut [IdxVec], numbers: &[u32])
-    requires few { length numbers.now < 2 ^ 32 }
+fn fill_lists(lists: &mut [IdxVec], rows: &[u32], numbers: &[u32])
+    requires each { length numbers.now ≡ length rows.now }
     requires known { All (λ number. number < length lists.old) numbers.now }
     requires room { AllZip IsRoomFor (counts_by numbers.now (length lists.old)) lists.old }
-    ensures { lists_of lists.new ≡ lists_by numbers.now (length lists.old) }
+    ensures { lists_of lists.new ≡ lists_by rows.now numbers.now (length lists.old) }
 {
-    for (row, number) in numbers.iter().enumerate() {
-        lists[*number as usize].push_reserved(row as u32);
+    for (place, number) in numbers.iter().enumerate() {
+        lists[*number as usize].push_reserved(rows[place]);
     }
 }

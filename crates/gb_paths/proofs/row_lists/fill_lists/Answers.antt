@@ -3,25 +3,25 @@ use Rattle.gb_paths.specs.Numbers.{lists_by}
 use Rattle.gb_paths.proofs.NumberLemmas.{filled_none, filled_room, filled_more, filled_all}
 use Rattle.gb_paths.proofs.row_lists.fill_lists.Goals as goal
 
-pub loop-row-init : goal.loop-row-init
-loop-row-init c = filled_none _ _ c.requires.room
+pub loop-place-init : goal.loop-place-init
+loop-place-init c = filled_none _ _ _ c.requires.room
 
 pub push_reserved-requires : goal.push_reserved-requires
 push_reserved-requires c =
-    let inside = c.requires.known c.loop-row.row 0 c.loop-row-test.true in
-    let number = get_or c.args.numbers.now c.loop-row.row 0 in
-    let here : number < length c.loop-row.lists = omega (arith, inside) in
-    (omega arith, filled_room c.args.numbers.now c.loop-row.row number c.loop-row-test.true refl _ (c.loop-row.invariant number _ here))
+    let inside = c.requires.known c.loop-place.place 0 c.loop-place-test.true in
+    let number = get_or c.args.numbers.now c.loop-place.place 0 in
+    let here : number < length c.loop-place.lists = omega (arith, inside) in
+    (omega arith, filled_room c.args.rows.now c.args.numbers.now c.requires.each c.loop-place.place number _ c.loop-place-test.true refl refl _ (c.loop-place.invariant number _ here))
 
-pub loop-row-preserved : goal.loop-row-preserved
-loop-row-preserved c =
-    let inside = c.requires.known c.loop-row.row 0 c.loop-row-test.true in
-    let number = get_or c.args.numbers.now c.loop-row.row 0 in
-    let here : number < length c.loop-row.lists = omega (arith, inside) in
-    filled_more c.args.numbers.now c.loop-row.row number c.loop-row-test.true refl c.loop-row.lists c.index-lists-number.result c.push_reserved.new.self here c.push_reserved.ensures.items c.push_reserved.ensures.capacity c.loop-row.invariant
+pub loop-place-preserved : goal.loop-place-preserved
+loop-place-preserved c =
+    let inside = c.requires.known c.loop-place.place 0 c.loop-place-test.true in
+    let number = get_or c.args.numbers.now c.loop-place.place 0 in
+    let here : number < length c.loop-place.lists = omega (arith, inside) in
+    filled_more c.args.rows.now c.args.numbers.now c.requires.each c.loop-place.place number _ c.loop-place-test.true refl refl c.loop-place.lists c.index-lists-number.result c.push_reserved.new.self here c.push_reserved.ensures.items c.push_reserved.ensures.capacity c.loop-place.invariant
 
 pub returns : goal.returns
 returns c =
-    let all : length c.args.numbers.now ≤ c.loop-row.row = omega arith in
-    let long : length c.loop-row.lists ≡ length c.args.lists.now = omega arith in
-    filled_all c.args.numbers.now c.loop-row.row c.loop-row.lists all c.loop-row.invariant ∙ ap (lists_by c.args.numbers.now) long
+    let all : length c.args.numbers.now ≤ c.loop-place.place = omega arith in
+    let long : length c.loop-place.lists ≡ length c.args.lists.now = omega arith in
+    filled_all c.args.rows.now c.args.numbers.now c.loop-place.place c.loop-place.lists c.requires.each all c.loop-place.invariant ∙ ap (lists_by c.args.rows.now c.args.numbers.now) long

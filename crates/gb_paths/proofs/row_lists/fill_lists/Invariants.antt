@@ -1,5 +1,5 @@
 use Rattle.gb_paths.proofs.NumberLemmas.{AreFilledTo}
 use Rattle.gb_paths.proofs.row_lists.fill_lists.Given as goal
 
-abbrev pub invariant-loop-row : goal.invariant-loop-row
-invariant-loop-row l = AreFilledTo l.numbers l.row l.lists
+abbrev pub invariant-loop-place : goal.invariant-loop-place
+invariant-loop-place l = AreFilledTo l.rows l.numbers l.place l.lists

@@ -31,4 +31,4 @@ returns c =
     let made = rw c.as_slice.ensures.value at c.in_ok-lists.ensures in
     let long : length c.as_mut_slice.result.now ≡ c.args.groups = ap length c.as_mut_slice.ensures.value ∙ as_many c.args.numbers.now _ c.args.groups _ c.in_ok-counts.ensures made in
     let kept : length c.fill_lists.new.lists ≡ c.in_ok-lists.lists.len = omega arith in
-    ap lists_of (refilled _ c.fill_lists.new.lists _ kept) ∙ c.fill_lists.ensures ∙ ap (lists_by c.args.numbers.now) long
+    ap lists_of (refilled _ c.fill_lists.new.lists _ kept) ∙ c.fill_lists.ensures ∙ ap (lists_by c.args.rows.now c.args.numbers.now) long

@@ -1,0 +1,132 @@
+-- Rows that ascend: all rows, those that pass a test, and one more at their end.
+use Rattle.std.proofs.Common.{◌≡◌, ℕ, zero, suc, ◌+◌, ◌<◌, ◌≤◌, Bool, List, [], ◌∷◌, ◌++◌, length, get_or, map, filter, take, All, refl, sym, ◌∙◌, ap, arith, eqb, inl, inr}
+use Rattle.std.specs.List.{range_with_len, AllByRecursion}
+use Rattle.std.specs.List.Sorted.{IsNonDecreasing, IsStrictlyIncreasing}
+use Rattle.std.proofs.lemmas.List.{get_or-map, length-map}
+use Rattle.std.proofs.lemmas.List.Elements.{All-filter, All-map, All-from_recursion, recursion_from_All}
+use Rattle.std.proofs.lemmas.Bool.{cases_Bool}
+use Rattle.std.proofs.lemmas.List.FromFn.{get_or-range_with_len, length-range_with_len}
+use Rattle.std.proofs.lemmas.List.Kept.{AllPairs-from_increasing, IsStrictlyIncreasing-filter}
+use Rattle.gb_defs.specs.Classes.{rows_below}
+use Rattle.gb_defs.specs.Hash.{partition_of}
+use Rattle.gb_defs.specs.Partitions.{in_partition}
+use Rattle.gb_defs.proofs.ClassesLemmas.{rows_below_all}
+use Rattle.gb_paths.specs.Numbers.{AreMembers, lists_by, rows_of}
+use Rattle.gb_paths.specs.Partitions.{AreWithin}
+use Rattle.smallvec.specs.SmallVec.{SmallVec}
+use Rattle.gb_groups.specs.Groups.{lists_of}
+use Rattle.gb_paths.proofs.NumberLemmas.{map_range_same, rows_by}
+
+pub all_members : (n : ℕ) → AreMembers n (rows_below n)
+all_members n = record {
+  below = All-from_recursion (λ row. row < n) (rows_below n) (rows_below_all n);
+  ascend = λ k within.
+      let long = length-range_with_len 0 n in
+      let here : k < n = omega (arith, within, long) in
+      let next : k + 1 < n = omega (arith, within, long) in
+      rw (get_or-range_with_len 0 n k 0 here, get_or-range_with_len 0 n (k + 1) 0 next) (omega arith);
+}
+
+pub some_members : (n : ℕ) (test : ℕ → Bool) (rows : List ℕ) → AreMembers n rows → AreMembers n (filter test rows)
+some_members n test rows m = record {
+  below = All-filter test (λ row. row < n) rows m.below;
+  ascend = IsStrictlyIncreasing-filter test rows m.ascend;
+}
+
+-- strictly ascending numbers are no fewer than their places
+place_below : (n : ℕ) (rows : List ℕ) → AreMembers n rows → (k : ℕ) → k < length rows → k ≤ get_or rows k 0
+place_below n rows m zero lt = omega arith
+place_below n rows m (suc k) lt =
+    let before = place_below n rows m k (omega (arith, lt)) in
+    let next : k + 1 ≡ suc k = omega arith in
+    let above = m.ascend k (omega (arith, lt)) in
+    omega (arith, before, above, ap (λ j. get_or rows j 0) next)
+
+pub few_members : (n : ℕ) (rows : List ℕ) → AreMembers n rows → length rows ≤ n
+few_members n [] m = omega arith
+few_members n (r ∷ rs) m =
+    let last = place_below n (r ∷ rs) m (length rs) (omega arith) in
+    let inside = m.below (length rs) 0 (omega arith) in
+    omega (arith, last, inside)
+
+-- ---- the rows of each number
+
+picked_all : (numbers : List ℕ) (k : ℕ) (P : ℕ → Type 0) (rows : List ℕ) → AllByRecursion P rows → AllByRecursion P (rows_of rows numbers k)
+unfolding rows_of
+picked_all numbers k P [] h = tt
+picked_all [] k P (r ∷ rs) h = tt
+picked_all (m ∷ ms) k P (r ∷ rs) h = elim (cases_Bool (eqb m k)) [
+  | inl e ↦ rw e (h.0, picked_all ms k P rs h.1)
+  | inr e ↦ rw e (picked_all ms k P rs h.1)
+]
+
+-- each row is below all behind it
+abbrev ByPairs : List ℕ → Type 0
+ByPairs [] = Unit {0}
+ByPairs (r ∷ rs) = AllByRecursion (λ s. r < s) rs × ByPairs rs
+
+pairs_from : (rows : List ℕ) → IsStrictlyIncreasing rows → ByPairs rows
+pairs_from [] up = tt
+pairs_from (r ∷ rs) up =
+    let pairs = AllPairs-from_increasing (r ∷ rs) up in
+    (recursion_from_All (λ s. r < s) rs (λ k d lt. pairs 0 (suc k) d (omega arith) (omega (arith, lt))), pairs_from rs (λ k within.
+    let next : suc k + 1 ≡ suc (k + 1) = omega arith in
+    let here = up (suc k) (omega (arith, within)) in
+    rw next at here))
+
+pairs_ascend : (rows : List ℕ) → ByPairs rows → IsStrictlyIncreasing rows
+pairs_ascend [] h k within = absurd (omega (arith, within))
+pairs_ascend (r ∷ rs) h zero within = All-from_recursion (λ s. r < s) rs h.0 zero 0 (omega (arith, within))
+pairs_ascend (r ∷ rs) h (suc k) within =
+    let next : suc k + 1 ≡ suc (k + 1) = omega arith in
+    rw next (pairs_ascend rs h.1 k (omega (arith, within)))
+
+-- ---- the rows of each partition
+
+map_same : (f h : ℕ → ℕ) (rows : List ℕ) → map f (map h rows) ≡ map (λ row. f (h row)) rows
+map_same f h [] = refl
+map_same f h (r ∷ rs) = ap (λ xs. f (h r) ∷ xs) (map_same f h rs)
+
+pub partition_lists : (hash : ℕ → ℕ) (n : ℕ) (rows hashes numbers : List ℕ) → hashes ≡ map hash rows → numbers ≡ map (λ h. partition_of h n) hashes →
+    lists_by rows numbers n ≡ map (λ p. filter (in_partition hash n p) rows) (range_with_len 0 n)
+partition_lists hash n rows hashes numbers hashed numbered =
+    let whole : numbers ≡ map (λ row. partition_of (hash row) n) rows = numbered ∙ ap (map (λ h. partition_of h n)) hashed ∙ map_same (λ h. partition_of h n) hash rows in
+    map_range_same (rows_of rows numbers) (λ p. filter (in_partition hash n p) rows) n [] (λ p lt. ap (λ ns. rows_of rows ns p) whole ∙ rows_by (λ row. partition_of (hash row) n) rows p)
+
+-- a part of the rows, in their order
+picked_pairs : (numbers : List ℕ) (k : ℕ) (rows : List ℕ) → ByPairs rows → ByPairs (rows_of rows numbers k)
+unfolding rows_of
+picked_pairs numbers k [] h = tt
+picked_pairs [] k (r ∷ rs) h = tt
+picked_pairs (m ∷ ms) k (r ∷ rs) h = elim (cases_Bool (eqb m k)) [
+  | inl e ↦ rw e (picked_all ms k (λ s. r < s) rs h.0, picked_pairs ms k rs h.1)
+  | inr e ↦ rw e (picked_pairs ms k rs h.1)
+]
+
+picked_members : (n : ℕ) (numbers : List ℕ) (k : ℕ) (rows : List ℕ) → AreMembers n rows → AreMembers n (rows_of rows numbers k)
+picked_members n numbers k rows m = record {
+  below = All-from_recursion (λ row. row < n) _ (picked_all numbers k (λ row. row < n) rows (recursion_from_All (λ row. row < n) rows m.below));
+  ascend = pairs_ascend _ (picked_pairs numbers k rows (pairs_from rows m.ascend));
+}
+
+pub listed_members : (n : ℕ) (rows numbers : List ℕ) (groups : ℕ) → AreMembers n rows → All (AreMembers n) (lists_by rows numbers groups)
+listed_members n rows numbers groups m = All-map (AreMembers n) (rows_of rows numbers) (range_with_len 0 groups) (λ k d lt. picked_members n numbers (get_or (range_with_len 0 groups) k d) rows m)
+
+pub within_from : (n : ℕ) (hashes numbers : List ℕ) → numbers ≡ map (λ h. partition_of h n) hashes → All (λ number. number < n) numbers → AreWithin n hashes
+within_from n hashes numbers numbered below k d lt =
+    let place : k < length numbers = omega (arith, ap length numbered, length-map hashes (λ h. partition_of h n), lt) in
+    let at : get_or numbers k 0 ≡ partition_of (get_or hashes k d) n = ap (λ ns. get_or ns k 0) numbered ∙ get_or-map (λ h. partition_of h n) hashes k d 0 lt in
+    rw (← at) (below k 0 place)
+
+-- what holds of the lists holds of one of them
+pub list_at : (P : List ℕ → Type 0) (lists : List (SmallVec ℕ)) → All P (lists_of lists) → (k : ℕ) (d : SmallVec ℕ) → k < length lists → P (get_or lists k d).items
+list_at P lists all k d lt =
+    let inside : k < length (lists_of lists) = omega (arith, lt, length-map lists (λ (list : SmallVec ℕ). list.items)) in
+    rw (← get_or-map (λ (list : SmallVec ℕ). list.items) lists k d d.items lt) (all k d.items inside)
+
+-- rows whose hashes are within the partitions
+pub rows_within : (n count : ℕ) (hash : ℕ → ℕ) (hashes : List ℕ) → hashes ≡ map hash (rows_below count) → AreWithin n hashes → AllByRecursion (λ i. partition_of (hash i) n < n) (rows_below count)
+rows_within n count hash hashes hashed within = recursion_from_All (λ i. partition_of (hash i) n < n) (rows_below count) (λ k d lt.
+    let place : k < length hashes = omega (arith, lt, ap length hashed, length-map (rows_below count) hash) in
+    let at : get_or hashes k 0 ≡ hash (get_or (rows_below count) k d) = ap (λ hs. get_or hs k 0) hashed ∙ get_or-map hash (rows_below count) k d 0 lt in
+    rw (← at) (within k 0 place))

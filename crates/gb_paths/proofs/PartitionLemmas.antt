@@ -1,0 +1,97 @@
+-- The groups of partitions, united, and in the order of their first rows.
+use Rattle.std.proofs.Common.{◌≡◌, ℕ, ◌<◌, ◌≤◌, Bool, true, false, not, ◌&&◌, List, [], ◌∷◌, ◌++◌, length, get_or, map, filter, All, refl, sym, ◌∙◌, ap, arith, nat_cmp, is_lt, inl, inr}
+use Rattle.std.specs.List.{flat_map, range_with_len, AllByRecursion}
+use Rattle.std.specs.List.Sorted.{IsNonDecreasing, IsNonDecreasingBy}
+use Rattle.std.proofs.lemmas.Bool.{cases_Bool}
+use Rattle.std.proofs.lemmas.Bool.Decides.{nat_tests}
+use Rattle.std.proofs.lemmas.List.{get_or-map, length-map, map-append}
+use Rattle.std.proofs.lemmas.List.Elements.{All-filter, All-from_recursion, recursion_from_All}
+use Rattle.std.proofs.lemmas.List.FromFn.{get_or-range_with_len, length-range_with_len}
+use Rattle.std.proofs.lemmas.List.Sorted.{IsNonDecreasingBy-from_sort}
+use Rattle.smallvec.specs.SmallVec.{SmallVec}
+use Rattle.gb_defs.specs.Classes.{class, firsts, groups, is_first, rows_below}
+use Rattle.gb_defs.specs.Groups.{Grouping, Idx}
+use Rattle.gb_defs.specs.Hash.{partition_of}
+use Rattle.gb_defs.specs.Partitions.{by_partition, in_partition, partition_groups}
+use Rattle.gb_defs.proofs.ClassesLemmas.{firsts_ascend}
+use Rattle.gb_defs.proofs.PartitionLemmas.{partitions_united, picked_once}
+use Rattle.gb_groups.specs.Groups.{pairs_of}
+use Rattle.gb_groups.specs.Order.{first_of, IsByFirst}
+use Rattle.gb_groups.proofs.OnceLemmas.{once}
+use Rattle.gb_paths.specs.Partitions.{AreWithin}
+
+-- ---- united
+
+map_flat : {A B C : Type 0} (f : B → C) (g : A → List B) (xs : List A) → map f (flat_map g xs) ≡ flat_map (λ x. map f (g x)) xs
+map_flat f g [] = refl
+map_flat f g (x ∷ xs) = map-append f (g x) (flat_map g xs) ∙ ap (λ ys. map f (g x) ++ ys) (map_flat f g xs)
+
+flat_by : {A B C : Type 0} (f : A → List C) (g : B → List C) (xs : List A) (ys : List B) → map f xs ≡ map g ys → flat_map f xs ≡ flat_map g ys
+flat_by f g [] [] e = refl
+flat_by f g [] (y ∷ ys) e = cc
+flat_by f g (x ∷ xs) [] e = cc
+flat_by f g (x ∷ xs) (y ∷ ys) e =
+    let head : f x ≡ g y = ap (λ (l : List (List _)). get_or l 0 (f x)) e in
+    let tail : map f xs ≡ map g ys = cc in
+    rw (head, flat_by f g xs ys tail)
+
+map_two : {A : Type 0} (f : List ℕ → A) (g : ℕ → List ℕ) (xs : List ℕ) → map f (map g xs) ≡ map (λ x. f (g x)) xs
+map_two f g [] = refl
+map_two f g (x ∷ xs) = ap (λ ys. f (g x) ∷ ys) (map_two f g xs)
+
+module _ (agree : ℕ → ℕ → Bool) (hash : ℕ → ℕ) (n count : ℕ) where
+  pub united : {V : Type 0} (items_of : V → List (ℕ × SmallVec ℕ)) (parts : List V) (lists : List (List ℕ)) → ((i j : ℕ) → i < count → j < count → agree i j ≡ true → hash i ≡ hash j) →
+      map (λ part. pairs_of (items_of part)) parts ≡ map (groups agree) lists → lists ≡ map (λ p. filter (in_partition hash n p) (rows_below count)) (range_with_len 0 n) →
+      pairs_of (flat_map items_of parts) ≡ partition_groups agree hash n (rows_below count)
+  united items_of parts lists alike each split =
+      map_flat _ items_of parts
+      ∙ flat_by (λ part. pairs_of (items_of part)) (λ p. groups agree (filter (in_partition hash n p) (rows_below count))) parts (range_with_len 0 n)
+      (each ∙ ap (map (groups agree)) split ∙ map_two (groups agree) (λ p. filter (in_partition hash n p) (rows_below count)) (range_with_len 0 n))
+      ∙ partitions_united agree hash n count alike
+
+-- ---- in the order of first rows
+
+abbrev tied : ℕ → ℕ → Bool
+tied a b = not (is_lt (nat_cmp a b)) && not (is_lt (nat_cmp b a))
+
+tied_one : (k x : ℕ) → tied k x ≡ true → x ≡ k
+tied_one k x e = grind (arith, nat_tests)
+
+module _ (f : ℕ → List ℕ) where
+  abbrev with_rows : ℕ → ℕ × List ℕ
+  with_rows i = (i, f i)
+
+  tied_pairs : (k : ℕ) (xs : List ℕ) → filter (λ y. tied k (first_of y)) (map with_rows xs) ≡ map with_rows (filter (tied k) xs)
+  tied_pairs k [] = refl
+  tied_pairs k (x ∷ xs) = elim (cases_Bool (tied k x)) [ inl e ↦ rw (e, tied_pairs k xs) | inr e ↦ rw (e, tied_pairs k xs) ]
+
+  pairs_ascend : (xs : List ℕ) → IsNonDecreasing xs → IsNonDecreasingBy first_of (map with_rows xs)
+  pairs_ascend xs up i j d le lt =
+      let inside : j < length xs = omega (arith, lt, length-map xs with_rows) in
+      let low : i < length xs = omega (arith, le, inside) in
+      rw (get_or-map with_rows xs i 0 d low, get_or-map with_rows xs j 0 d inside) (up i j 0 le inside)
+
+-- the groups of partitions are in the order of their first rows the groups of all rows
+pub united_sorted : (agree : ℕ → ℕ → Bool) (hash : ℕ → ℕ) (n count : ℕ) (after : List (ℕ × List ℕ)) → AllByRecursion (λ i. partition_of (hash i) n < n) (rows_below count) →
+    IsByFirst (partition_groups agree hash n (rows_below count)) after → after ≡ groups agree (rows_below count)
+unfolding partition_groups groups firsts
+united_sorted agree hash n count after within sorted =
+    let rows = rows_below count in
+    let first = firsts agree rows in
+    let within_first : AllByRecursion (λ i. partition_of (hash i) n < n) first =
+    recursion_from_All (λ i. partition_of (hash i) n < n) _ (All-filter (is_first agree rows) (λ i. partition_of (hash i) n < n) rows (All-from_recursion (λ i. partition_of (hash i) n < n) rows within)) in
+    once first_of after (map (with_rows (class agree rows)) first) (IsNonDecreasingBy-from_sort first_of after sorted.sorted) (pairs_ascend (class agree rows) first (firsts_ascend agree count)) (λ pair.
+    sorted.stable pair
+    ∙ tied_pairs (class agree rows) pair.0 (by_partition hash n first)
+    ∙ ap (map (with_rows (class agree rows))) (picked_once (tied pair.0) pair.0 (tied_one pair.0) hash n first within_first)
+    ∙ sym (tied_pairs (class agree rows) pair.0 first))
+
+pub by_first_rows : (agree : ℕ → ℕ → Bool) (hash : ℕ → ℕ) (n count : ℕ) (before after : Grouping) → AllByRecursion (λ i. partition_of (hash i) n < n) (rows_below count) →
+    before ≡ record { pairs = partition_groups agree hash n (rows_below count); form = Idx; flagged = false } → IsByFirst before.pairs after.pairs → after.flagged ≡ true → after.form ≡ before.form →
+    after ≡ record { pairs = groups agree (rows_below count); form = Idx; flagged = true }
+by_first_rows agree hash n count before after within made sorted flagged form =
+    let pairs = united_sorted agree hash n count after.pairs within (rw (ap (λ g. g.pairs) made) at sorted) in
+    let form_is : after.form ≡ Idx = form ∙ ap (λ g. g.form) made in
+    ap (λ ps. record { pairs = ps; form = after.form; flagged = after.flagged }) pairs
+    ∙ ap (λ f. record { pairs = groups agree (rows_below count); form = f; flagged = after.flagged }) form_is
+    ∙ ap (λ b. record { pairs = groups agree (rows_below count); form = Idx; flagged = b }) flagged

@@ -1,0 +1,55 @@
+//! The rows of each partition.
+
+ghost use Rattle.std.specs.Prelude.{◌≡◌, ℕ, ◌<◌, ◌≤◌, ◌^◌, All, map, filter, length, IfOk, IfErr, OnOk};
+ghost use Rattle.std.specs.List.{range_with_len};
+ghost use Rattle.gb_defs.specs.Classes.{rows_below};
+ghost use Rattle.gb_defs.specs.Hash.{partition_of};
+ghost use Rattle.gb_defs.specs.Partitions.{in_partition};
+ghost use Rattle.gb_cols.specs.PlSmallStr.{IsNoMemory};
+ghost use Rattle.gb_groups.specs.Groups.{lists_of};
+ghost use Rattle.gb_paths.specs.Numbers.{AreMembers};
+ghost use Rattle.gb_paths.specs.Partitions.{AreWithin};
+
+use crate::row_hashes::all_rows;
+use crate::row_lists::row_lists;
+use gb_cols::error::{PolarsError, PolarsResult};
+use gb_groups::groups_idx::IdxVec;
+use gb_hash::combine::hash_to_partition;
+use std::alloc::{AllocError, Global};
+
+/// The rows of each of so many partitions, by the hashes of all rows.
+pub fn partition_rows(
+    alloc: Global,
+    hashes: &[u64],
+    n_partitions: usize,
+) -> PolarsResult<Vec<IdxVec>>
+    requires some { 1 ≤ n_partitions }
+    requires few { length hashes.now < 2 ^ 32 }
+    ensures rows { IfOk result (λ lists. (hash : ℕ → ℕ) → hashes.now ≡ map hash (rows_below (length hashes.now))
+        → lists_of lists.items ≡ map (λ p. filter (in_partition hash n_partitions p) (rows_below (length hashes.now))) (range_with_len 0 n_partitions)) }
+    ensures members { IfOk result (λ lists. All (AreMembers (length hashes.now)) (lists_of lists.items)) }
+    ensures within { OnOk result (AreWithin n_partitions hashes.now) }
+    ensures err { IfErr result IsNoMemory }
+{
+    // More lists than a row number counts are more than memory holds.
+    if n_partitions > u32::MAX as usize {
+        return Err(PolarsError::NoMemory);
+    }
+    let numbers = partition_numbers(alloc, hashes, n_partitions)?;
+    let rows = all_rows(alloc, hashes.len())?;
+    Ok(row_lists(alloc, rows.as_slice(), numbers.as_slice(), n_partitions)?)
+}
+
+// The partition of each hash.
+fn partition_numbers(alloc: Global, hashes: &[u64], n: usize) -> Result<Vec<u32>, AllocError>
+    requires some { 1 ≤ n }
+    requires few { n < 2 ^ 32 }
+    ensures numbers { IfOk result (λ numbers. numbers.items ≡ map (λ h. partition_of h n) hashes.now) }
+    ensures below { IfOk result (λ numbers. All (λ number. number < n) numbers.items) }
+{
+    let mut numbers = Vec::with_capacity(alloc, hashes.len())?;
+    for hash in hashes {
+        numbers.push_reserved(hash_to_partition(*hash, n) as u32);
+    }
+    Ok(numbers)
+}

@@ -1,0 +1,120 @@
+//! Groups by a table for each partition of the hashes. The partitions are dealt to the workers, each of
+//! which takes its own one after another.
+
+ghost use Rattle.std.specs.Prelude.{◌≡◌, ℕ, ◌<◌, ◌≤◌, ◌^◌, All, map, length, IfOk, IfErr};
+ghost use Rattle.std.specs.Thread.{IsSync};
+ghost use Rattle.gb_defs.specs.Classes.{groups, rows_below};
+ghost use Rattle.gb_defs.specs.Groups.{Idx};
+ghost use Rattle.gb_defs.specs.Partitions.{threaded_groups};
+ghost use Rattle.gb_cols.specs.PlSmallStr.{IsNoMemory};
+ghost use Rattle.gb_groups.specs.Groups.{lists_of, pairs_of};
+ghost use Rattle.gb_groups.specs.GroupsType.{groups_of};
+ghost use Rattle.gb_paths.specs.Numbers.{AreMembers, same_slot_at};
+
+use crate::partitions::partition_rows;
+use crate::row_groups::group_members;
+use crate::row_hashes::hash_rows;
+use gb_cols::device::Gate;
+use gb_cols::error::PolarsResult;
+use gb_cols::pool::Pool;
+use gb_groups::groups_idx::{GroupsIdx, IdxItem, IdxVec};
+use gb_groups::groups_type::GroupsType;
+use gb_hash::key_rows::KeyRows;
+use gb_hash::steps::Steps;
+use std::alloc::Global;
+use std::marker::Brand;
+use std::sync::ledger::{Blank, Ledger};
+use std::thread::Threads;
+
+/// The rows that hold one key, by the partition of their hash and then by first row; where `sorted`, by
+/// first row and flagged. Each partition enters the gate with its number, and leaves it.
+pub fn group_by_threaded_iter<T: Threads + Sync, R: KeyRows, G: Gate + Sync>(
+    rt: &T,
+    alloc: Global,
+    rows: &R,
+    n_partitions: usize,
+    sorted: bool,
+    pool: &Pool,
+    gate: &G,
+) -> PolarsResult<GroupsType>
+    requires row_type { IsSync T.row }
+    requires few { R.row_count rows.now < 2 ^ 32 }
+    requires some { 1 ≤ n_partitions }
+    ensures ok { IfOk result (λ g. groups_of g ≡ record { pairs = threaded_groups (same_slot_at (R.slot rows.now)) (R.row_hash rows.now) n_partitions sorted (rows_below (R.row_count rows.now)); form = Idx; flagged = sorted }) }
+    ensures err { IfErr result IsNoMemory }
+{
+    let hashes = hash_rows(alloc, rows)?;
+    let members = partition_rows(alloc, hashes.as_slice(), n_partitions)?;
+    let parts = group_partitions(alloc, rows, members.as_slice(), hashes.as_slice(), 0, gate)?;
+    let mut groups = GroupsIdx::from_parts(alloc, parts, pool)?;
+    if sorted {
+        groups.sort()?;
+    }
+    Ok(GroupsType::from(groups))
+}
+
+// The groups of each partition, in order; the number of the first is given.
+fn group_partitions<R: KeyRows, G: Gate>(
+    alloc: Global,
+    rows: &R,
+    members: &[IdxVec],
+    hashes: &[u64],
+    start: usize,
+    gate: &G,
+) -> PolarsResult<Vec<Vec<IdxItem>>>
+    requires few { R.row_count rows.now < 2 ^ 32 }
+    requires members { All (AreMembers (R.row_count rows.now)) (lists_of members.now) }
+    requires hashes { hashes.now ≡ map (R.row_hash rows.now) (rows_below (R.row_count rows.now)) }
+    ensures ok { IfOk result (λ parts. map (λ part. pairs_of part.items) parts.items ≡ map (groups (same_slot_at (R.slot rows.now))) (lists_of members.now)) }
+    ensures err { IfErr result IsNoMemory }
+{
+    let mut parts = Vec::with_capacity(alloc, members.len())?;
+    for (place, list) in members.iter().enumerate() {
+        let partition = start.wrapping_add(place) as u64;
+        parts.push_reserved(enter_partition(alloc, rows, list, hashes, partition, gate)?);
+    }
+    Ok(parts)
+}
+
+// The groups of a partition, which is within the gate from before its first key until after its last.
+fn enter_partition<R: KeyRows, G: Gate>(
+    alloc: Global,
+    rows: &R,
+    members: &[u32],
+    hashes: &[u64],
+    partition: u64,
+    gate: &G,
+) -> PolarsResult<Vec<IdxItem>>
+    requires few { R.row_count rows.now < 2 ^ 32 }
+    requires members { AreMembers (R.row_count rows.now) members.now }
+    requires hashes { hashes.now ≡ map (R.row_hash rows.now) (rows_below (R.row_count rows.now)) }
+    ensures ok { IfOk result (λ items. pairs_of items.items ≡ groups (same_slot_at (R.slot rows.now)) members.now) }
+    ensures err { IfErr result IsNoMemory }
+{
+    gate.enter(partition);
+    let groups = group_partition::<R, Brand>(alloc, rows, members, hashes, Blank::new(1));
+    gate.leave(partition);
+    groups
+}
+
+// The groups of a partition, with a counter of its own.
+fn group_partition<R: KeyRows, L: Ledger>(
+    alloc: Global,
+    rows: &R,
+    members: &[u32],
+    hashes: &[u64],
+    blank: Blank,
+) -> PolarsResult<Vec<IdxItem>>
+    requires name { blank.name ≡ L.name }
+    requires parts { blank.parts ≡ L.parts }
+    requires some { 0 < L.parts }
+    requires few { R.row_count rows.now < 2 ^ 32 }
+    requires members { AreMembers (R.row_count rows.now) members.now }
+    requires hashes { hashes.now ≡ map (R.row_hash rows.now) (rows_below (R.row_count rows.now)) }
+    ensures ok { IfOk result (λ items. pairs_of items.items ≡ groups (same_slot_at (R.slot rows.now)) members.now) }
+    ensures err { IfErr result IsNoMemory }
+{
+    let mut steps: Steps<L> = Steps::new(blank);
+    let groups = group_members(alloc, rows, members, hashes, &mut steps)?;
+    GroupsIdx::new(groups.first, groups.all, false).into_items()
+}
