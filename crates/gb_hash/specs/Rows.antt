@@ -10,6 +10,11 @@ use Rattle.gb_defs.specs.Slot.{Slot, Num, Bytes}
 use Rattle.gb_defs.specs.Hash.{hash_of}
 use Rattle.gb_cols.specs.Array.{number_slot_of, text_slot}
 
+-- numbers, equal where they are one
+pub keys_decide_by : {N : Type 0} (eq : N → N → Bool) (number : N → ℤ) → ((a b : N) → Decides (eq a b) (number a ≡ number b)) →
+    (a b : N) → Decides (eq a b) (Num (number a) ≡ Num (number b))
+keys_decide_by eq number d a b = (λ e. ap (λ n. Num n) ((d a b).0 e), λ e. (d a b).1 (cc))
+
 -- numbers, equal where they are one, with a null apart
 pub numbers_decide : {N : Type 0} (eq : N → N → Bool) (number : N → ℤ) → ((a b : N) → Decides (eq a b) (number a ≡ number b)) →
     (a b : Option N) → Decides (option_eq eq a b) (number_slot_of number a ≡ number_slot_of number b)

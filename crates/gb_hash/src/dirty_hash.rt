@@ -2,12 +2,15 @@
 
 ghost use Rattle.std.specs.Prelude.{◌≡◌, ℕ, ℤ, pos};
 ghost use Rattle.std.specs.Int.{Width, w8, w16, w32, w64, w128};
+ghost use Rattle.std.specs.Bool.{Decides};
+ghost use Rattle.std.proofs.lemmas.Bool.Decides.{Decides-int_eq};
 ghost use Rattle.gb_defs.specs.Hash.{hash_number, fold_word, hash_halves};
+ghost use Rattle.gb_cols.specs.Native.{Decides-pos};
 
 use crate::mixer::Mixer;
 
 /// A number that has a hash under any mixer.
-pub trait DirtyHash {
+pub trait DirtyHash: Eq {
     // The width of the type.
     ghost width: { Width };
 
@@ -16,6 +19,9 @@ pub trait DirtyHash {
 
     fn dirty_hash<M: Mixer>(&self, mixer: &M) -> u64
         ensures { result ≡ hash_number width (M.seed_of mixer.now) (M.mix_of mixer.now) (number self.now) };
+
+    // Values are equal where their numbers are.
+    ghost equal_by_number: { (a b : Self) → Decides (Self.eq a b) (number a ≡ number b) };
 }
 
 // The hash so far, with one more word.
@@ -41,6 +47,8 @@ impl DirtyHash for u8 {
 
     ghost number = { λ n. pos n };
 
+    ghost equal_by_number = { Decides-pos };
+
     #[inline]
     fn dirty_hash<M: Mixer>(&self, mixer: &M) -> u64 {
         with_word(mixer, mixer.seed(), u64::from(*self))
@@ -51,6 +59,8 @@ impl DirtyHash for u16 {
     ghost width = { w16 };
 
     ghost number = { λ n. pos n };
+
+    ghost equal_by_number = { Decides-pos };
 
     #[inline]
     fn dirty_hash<M: Mixer>(&self, mixer: &M) -> u64 {
@@ -63,6 +73,8 @@ impl DirtyHash for u32 {
 
     ghost number = { λ n. pos n };
 
+    ghost equal_by_number = { Decides-pos };
+
     #[inline]
     fn dirty_hash<M: Mixer>(&self, mixer: &M) -> u64 {
         with_word(mixer, mixer.seed(), u64::from(*self))
@@ -73,6 +85,8 @@ impl DirtyHash for u64 {
     ghost width = { w64 };
 
     ghost number = { λ n. pos n };
+
+    ghost equal_by_number = { Decides-pos };
 
     #[inline]
     fn dirty_hash<M: Mixer>(&self, mixer: &M) -> u64 {
@@ -85,6 +99,8 @@ impl DirtyHash for i8 {
 
     ghost number = { λ n. n };
 
+    ghost equal_by_number = { Decides-int_eq };
+
     #[inline]
     fn dirty_hash<M: Mixer>(&self, mixer: &M) -> u64 {
         with_word(mixer, mixer.seed(), i64::from(*self).cast_unsigned())
@@ -95,6 +111,8 @@ impl DirtyHash for i16 {
     ghost width = { w16 };
 
     ghost number = { λ n. n };
+
+    ghost equal_by_number = { Decides-int_eq };
 
     #[inline]
     fn dirty_hash<M: Mixer>(&self, mixer: &M) -> u64 {
@@ -107,6 +125,8 @@ impl DirtyHash for i32 {
 
     ghost number = { λ n. n };
 
+    ghost equal_by_number = { Decides-int_eq };
+
     #[inline]
     fn dirty_hash<M: Mixer>(&self, mixer: &M) -> u64 {
         with_word(mixer, mixer.seed(), i64::from(*self).cast_unsigned())
@@ -117,6 +137,8 @@ impl DirtyHash for i64 {
     ghost width = { w64 };
 
     ghost number = { λ n. n };
+
+    ghost equal_by_number = { Decides-int_eq };
 
     #[inline]
     fn dirty_hash<M: Mixer>(&self, mixer: &M) -> u64 {
@@ -129,6 +151,8 @@ impl DirtyHash for u128 {
 
     ghost number = { λ n. pos n };
 
+    ghost equal_by_number = { Decides-pos };
+
     #[inline]
     fn dirty_hash<M: Mixer>(&self, mixer: &M) -> u64 {
         hash_of_halves(mixer, *self)
@@ -139,6 +163,8 @@ impl DirtyHash for i128 {
     ghost width = { w128 };
 
     ghost number = { λ n. n };
+
+    ghost equal_by_number = { Decides-int_eq };
 
     #[inline]
     fn dirty_hash<M: Mixer>(&self, mixer: &M) -> u64 {

@@ -14,6 +14,7 @@ pub mod mixer;
 pub mod num_rows;
 #[cfg(test)]
 mod row_tests;
+pub mod slice_rows;
 pub mod steps;
 #[cfg(test)]
 mod tests;

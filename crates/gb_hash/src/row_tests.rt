@@ -5,6 +5,7 @@ use crate::byte_rows::ByteRows;
 use crate::key_rows::KeyRows;
 use crate::mixer::SeedMixer;
 use crate::num_rows::NumRows;
+use crate::slice_rows::SliceRows;
 use crate::steps::Steps;
 use gb_cols::chunked::{Int64Chunked, StringChunked};
 use gb_cols::small_str::PlSmallStr;
@@ -13,7 +14,7 @@ use std::sync::ledger::{Blank, Ledger};
 use std::test::Fail;
 
 #[test]
-fn rows_of_both_kinds(rt: HostRuntime) -> Result<(), Fail> {
+fn rows_of_each_kind(rt: HostRuntime) -> Result<(), Fail> {
     let alloc = rt.alloc();
     let mixer = SeedMixer::new(7);
     let wanted_numbers = [Some(5), None, Some(-1), Some(5)];
@@ -39,6 +40,16 @@ fn rows_of_both_kinds(rt: HostRuntime) -> Result<(), Fail> {
     ];
     assert!(rt; reads_once(&numbers, &wanted_numbers, &number_hashes));
     assert!(rt; reads_once(&texts, &wanted_texts, &text_hashes));
+    let halves = [5i128, -1, 1 << 64];
+    let halves_hashes = [
+        3518884849563188444,
+        490528790413895549,
+        17069728591328954800,
+    ];
+    assert!(rt; reads_once(&SliceRows::new(&halves, mixer), &halves, &halves_hashes));
+    let small = [5u8, 0, 5];
+    let small_hashes = [five, 1346066267577507604, five];
+    assert!(rt; reads_once(&SliceRows::new(&small, mixer), &small, &small_hashes));
     Ok(())
 }
 

@@ -1,0 +1,59 @@
+//! The rows of a slice of numbers.
+
+ghost use Rattle.std.specs.Prelude.{◌≡◌, ℕ, length, map};
+ghost use Rattle.gb_defs.specs.Slot.{slot_at, Num};
+ghost use Rattle.gb_defs.specs.Hash.{hash_of};
+ghost use Rattle.gb_hash.specs.Rows.{keys_decide_by, one_hash};
+
+use crate::dirty_hash::DirtyHash;
+use crate::key_rows::KeyRows;
+use crate::mixer::Mixer;
+use crate::steps::Steps;
+use std::hash::Hash;
+use std::sync::ledger::Ledger;
+
+/// The rows of a slice of numbers, which are its keys; no row is null.
+#[derive(Drop)]
+pub struct SliceRows<'a, K, M: Mixer> {
+    pub keys: &'a [K],
+    pub mixer: M,
+}
+
+impl<'a, K, M: Mixer> SliceRows<'a, K, M> {
+    pub fn new(keys: &'a [K], mixer: M) -> Self
+        ensures keys { result.keys.now ≡ keys.now }
+        ensures mixer { result.mixer ≡ mixer }
+    {
+        SliceRows { keys, mixer }
+    }
+}
+
+impl<'a, K: Copy + Eq + Hash + Send + Sync + DirtyHash, M: Mixer + Sync> KeyRows
+    for SliceRows<'a, K, M> {
+    type Key = K;
+
+    ghost row_count = { λ rows. length rows.keys.now };
+
+    ghost slot = { λ rows i. slot_at (map (λ k. Num (K.number k)) rows.keys.now) i };
+
+    ghost row_hash = { λ rows i. hash_of K.width (M.seed_of rows.mixer) (M.mix_of rows.mixer) (slot_at (map (λ k. Num (K.number k)) rows.keys.now) i) };
+
+    ghost key_slot = { λ k. Num (K.number k) };
+
+    ghost keys_decide = { keys_decide_by K.eq K.number K.equal_by_number };
+
+    ghost hashes_alike = { λ rows i j _ _ e. one_hash K.width (M.seed_of rows.mixer) (M.mix_of rows.mixer) _ _ e };
+
+    fn len(&self) -> usize {
+        self.keys.len()
+    }
+
+    fn key_at<L: Ledger>(&self, i: usize, steps: &mut Steps<L>) -> K {
+        steps.tick();
+        self.keys[i]
+    }
+
+    fn hash_at(&self, i: usize) -> u64 {
+        self.keys[i].dirty_hash(&self.mixer)
+    }
+}
