@@ -8,6 +8,7 @@ pub mod byte_hash;
 pub mod byte_rows;
 pub mod combine;
 pub mod dirty_hash;
+pub mod group_table;
 pub mod id_hasher;
 pub mod key_rows;
 pub mod mixer;

@@ -1,0 +1,158 @@
+//! The numbers of groups by their keys.
+
+ghost use Rattle.std.specs.Prelude.{◌≡◌, ℕ, ◌+◌, ◌-◌, ◌*◌, ◌^◌, ◌<◌, ◌≤◌, ◌==◌, [], IsTrue, IfOk, OnOk, OnErr, length, count_by, slice_index_or};
+ghost use Rattle.gb_hash.specs.Table.{IsTable, IsFreeFor, IsPowerOfTwo, IsRoomy, IsNumbered};
+ghost use Rattle.gb_hash.specs.Entry.{hashes_of, IsSpot};
+
+use std::alloc::{AllocError, Global};
+use std::marker::Model;
+
+// A group's key and hash, side by side, since a search reads both.
+#[derive(Drop)]
+struct Entry<K> {
+    key: K,
+    hash: u64,
+}
+
+// The number of a key's group, or the slot that it would take.
+#[derive(Clone, Copy)]
+enum Spot {
+    Known(u32),
+    Free(usize),
+}
+
+/// The groups' numbers by their keys. A search starts at the slot that the hash names and goes on to
+/// the next ones, so that it is short where few slots are taken; at least half of them are free.
+#[derive(Drop)]
+pub struct GroupTable<K> {
+    // 0 where a slot is free, else a group's number and 1.
+    slots: Vec<u32>,
+    entries: Vec<Entry<K>>,
+}
+
+impl<K> Model for GroupTable<K> {
+    ghost use Rattle.std.specs.Prelude.{List, ℕ};
+    ghost use Rattle.gb_hash.specs.Table.{IsRoomy};
+    ghost use Rattle.gb_hash.specs.Entry.{pairs_of, hashes_of};
+
+    ghost Value = { List (K × ℕ) };
+
+    ghost view = { λ table. pairs_of table.entries.items };
+
+    ghost invariant = { λ table. IsRoomy table.slots.items (hashes_of table.entries.items) };
+}
+
+impl<K: Copy + Eq> GroupTable<K> {
+    /// No groups.
+    pub fn new(alloc: Global) -> Result<GroupTable<K>, AllocError>
+        ensures { IfOk result (λ table. table ≡ []) }
+    {
+        let entries = Vec::new(alloc);
+        let slots = rebuilt(alloc, &entries, 16)?;
+        Ok(GroupTable { slots, entries })
+    }
+
+    pub fn len(&self) -> usize
+        ensures { result ≡ length self.now }
+    {
+        self.entries.len()
+    }
+
+    /// The number of the key's group, a new one where no group has the key. Any hash will do that
+    /// equal keys share. Where hashes differ, the time is constant but for the growth of the table.
+    #[inline]
+    pub fn number_of(&mut self, key: K, hash: u64) -> Result<u32, AllocError>
+        requires few { length self.old < 2 ^ 32 - 1 }
+        requires alike { (g : ℕ) (d : _) → g < length self.old → IsTrue (K.eq (slice_index_or self.old g d).0 key) → (slice_index_or self.old g d).1 ≡ hash }
+        ensures found { IfOk result (λ number. IsNumbered K.eq self.old self.new key hash number) }
+        ensures unchanged { OnErr result (self.new ≡ self.old) }
+    {
+        make_room(&mut self.slots, &self.entries)?;
+        match probe(&self.slots, &self.entries, key, hash) {
+            Spot::Known(number) => Ok(number),
+            Spot::Free(at) => {
+                let number = self.entries.len() as u32;
+                self.entries.push(Entry { key, hash })?;
+                self.slots[at] = number + 1;
+                Ok(number)
+            }
+        }
+    }
+}
+
+// The number of the key's group, or the slot that it would take. Hashes are compared first: they are
+// at hand, and most other keys differ in them.
+#[inline]
+fn probe<K: Copy + Eq>(slots: &[u32], entries: &[Entry<K>], key: K, hash: u64) -> Spot
+    requires table { IsTable slots.now (hashes_of entries.now) }
+    requires room { length entries.now < length slots.now }
+    requires alike { (g : ℕ) (d : _) → g < length entries.now → IsTrue (K.eq (slice_index_or entries.now g d).key key) → (slice_index_or entries.now g d).hash ≡ hash }
+    ensures { IsSpot K.eq slots.now entries.now hash key result }
+{
+    let mask = slots.len() - 1;
+    let mut at = (hash & mask as u64) as usize;
+    for _probe in 0..slots.len() {
+        let slot = slots[at];
+        if slot == 0 {
+            return Spot::Free(at);
+        }
+        let entry = &entries[(slot - 1) as usize];
+        if entry.hash == hash && entry.key == key {
+            return Spot::Known(slot - 1);
+        }
+        at = (at + 1) & mask;
+    }
+    unreachable!()
+}
+
+// Doubles the slots where half of them are taken.
+#[inline]
+fn make_room<K>(slots: &mut Vec<u32>, entries: &[Entry<K>]) -> Result<(), AllocError>
+    requires roomy { IsRoomy slots.old.items (hashes_of entries.now) }
+    requires few { length entries.now < 2 ^ 32 }
+    ensures roomy { OnOk result (IsRoomy slots.new.items (hashes_of entries.now)) }
+    ensures room { OnOk result (2 * length entries.now < length slots.new.items) }
+    ensures unchanged { OnErr result (slots.new.items ≡ slots.old.items) }
+{
+    if 2 * entries.len() < slots.len() {
+        return Ok(());
+    }
+    *slots = rebuilt(*slots.allocator(), entries, 2 * slots.len())?;
+    Ok(())
+}
+
+// Slots for these entries, by their hashes alone.
+#[cold]
+#[inline(never)]
+fn rebuilt<K>(alloc: Global, entries: &[Entry<K>], capacity: usize) -> Result<Vec<u32>, AllocError>
+    requires power { IsPowerOfTwo capacity }
+    requires room { length entries.now < capacity }
+    requires few { length entries.now < 2 ^ 32 }
+    ensures table { IfOk result (λ slots. IsTable slots.items (hashes_of entries.now)) }
+    ensures len { IfOk result (λ slots. length slots.items ≡ capacity) }
+{
+    let mut slots = vec![in alloc; 0u32; capacity]?;
+    for number in 0..entries.len() {
+        let at = free_spot(&slots, entries[number].hash);
+        slots[at] = number as u32 + 1;
+    }
+    Ok(slots)
+}
+
+// The first free slot from the hash on.
+#[inline]
+fn free_spot(slots: &[u32], hash: u64) -> usize
+    requires power { IsPowerOfTwo (length slots.now) }
+    requires room { 0 < count_by (λ s. s == 0) slots.now }
+    ensures { IsFreeFor slots.now hash result }
+{
+    let mask = slots.len() - 1;
+    let mut at = (hash & mask as u64) as usize;
+    for _probe in 0..slots.len() {
+        if slots[at] == 0 {
+            return at;
+        }
+        at = (at + 1) & mask;
+    }
+    unreachable!()
+}
