@@ -1,0 +1,86 @@
+//! What the words of the command line ask for.
+
+use crate::fault::Fault;
+
+#[derive(Clone, Copy, Debug, PartialEq, Eq)]
+pub enum Method {
+    Sum,
+    Count,
+}
+
+#[derive(Debug, PartialEq, Eq)]
+pub struct Aggregate {
+    pub method: Method,
+    pub column: String,
+}
+
+#[derive(Debug, PartialEq, Eq)]
+pub struct Request {
+    pub key: String,
+    pub aggregates: Vec<Aggregate>,
+    pub null_word: String,
+}
+
+impl Request {
+    pub fn from_words(mut words: impl Iterator<Item = String>) -> Result<Request, Fault> {
+        if words.next().as_deref() != Some("group") {
+            return Err(Fault::Words("the first word is not `group`"));
+        }
+        let mut key = None;
+        let mut aggregates = Vec::new();
+        let mut null_word = String::new();
+        while let Some(option) = words.next() {
+            let value = words
+                .next()
+                .ok_or(Fault::Words("an option lacks its value"))?;
+            match option.as_str() {
+                "--by" => key = Some(value),
+                "--agg" => aggregates.push(Aggregate::from_word(&value)?),
+                "--null" => null_word = value,
+                _ => return Err(Fault::Words("an option is unknown")),
+            }
+        }
+        let key = key.ok_or(Fault::Words("`--by` is missing"))?;
+        Ok(Request {
+            key,
+            aggregates,
+            null_word,
+        })
+    }
+}
+
+impl Method {
+    /// The word of the type of what is answered.
+    pub fn type_word(self) -> &'static str {
+        match self {
+            Method::Sum => "i64",
+            Method::Count => "u32",
+        }
+    }
+}
+
+impl Aggregate {
+    fn from_word(word: &str) -> Result<Aggregate, Fault> {
+        let (method, column) = match word.split_once(':') {
+            Some(("sum", column)) => (Method::Sum, column),
+            Some(("count", column)) => (Method::Count, column),
+            _ => {
+                return Err(Fault::Words(
+                    "an aggregate is neither sum:NAME nor count:NAME",
+                ))
+            }
+        };
+        Ok(Aggregate {
+            method,
+            column: column.to_string(),
+        })
+    }
+
+    /// The name of the aggregate's column in the answer.
+    pub fn name(&self) -> String {
+        match self.method {
+            Method::Sum => format!("{}_sum", self.column),
+            Method::Count => format!("{}_count", self.column),
+        }
+    }
+}
