@@ -1,0 +1,97 @@
+"""A bar chart of the rows that each program groups in a second, as an SVG picture."""
+
+import math
+from html import escape
+
+from report import names_of
+
+WIDTH = 860
+LEFT = 190
+RIGHT = 70
+TOP = 96
+BAR = 13
+GAP = 20
+COLOURS = ["#444444", "#9ecae1", "#4292c6", "#08519c", "#fdae6b", "#e6550d", "#a1d99b", "#c994c7", "#bcbddc"]
+
+
+def text(x, y, words, anchor="start", size=12, weight="normal", colour="#222222"):
+    return (
+        f'<text x="{x:.1f}" y="{y:.1f}" text-anchor="{anchor}" font-size="{size}" '
+        f'font-weight="{weight}" fill="{colour}">{escape(words)}</text>'
+    )
+
+
+def rectangle(x, y, width, height, colour):
+    return f'<rect x="{x:.1f}" y="{y:.1f}" width="{width:.1f}" height="{height:.1f}" fill="{colour}"/>'
+
+
+def rates(result):
+    """Millions of rows a second, by program."""
+    return {name: result.table.rows / measured.median / 1e6 for name, measured in result.measured.items()}
+
+
+def step_of(most):
+    """The distance of the marks on an axis up to a number: 1, 2 or 5 times a power of ten."""
+    power = 10 ** math.floor(math.log10(most / 5))
+    return next(power * times for times in (1, 2, 5, 10) if power * times >= most / 6)
+
+
+def axis(most, height):
+    """The axis with its marks, and the line of each mark over the picture."""
+    step = step_of(most)
+    parts = []
+    for number in range(math.floor(most / step) + 1):
+        x = LEFT + (WIDTH - LEFT - RIGHT) * number * step / most
+        parts.append(f'<line x1="{x:.1f}" y1="{TOP - 8}" x2="{x:.1f}" y2="{height - 44}" stroke="#dddddd"/>')
+        parts.append(text(x, height - 28, f"{number * step:g}", "middle"))
+    parts.append(text(LEFT, height - 10, "million rows a second; a longer bar is faster"))
+    return parts
+
+
+def legend(colours):
+    parts, x = [], 20
+    for name, colour in colours.items():
+        parts.append(rectangle(x, 56, 12, 12, colour))
+        parts.append(text(x + 17, 66, name))
+        x += 34 + 7.2 * len(name)
+    return parts
+
+
+def bars(result, colours, most, top):
+    """The bars of one table, each with its number behind it."""
+    found = rates(result)
+    middle = top + BAR * len(found) / 2
+    parts = [
+        text(LEFT - 10, middle, result.table.case.title, "end", weight="bold"),
+        text(LEFT - 10, middle + 15, f"{result.groups:,} groups", "end", 11, colour="#666666"),
+    ]
+    for number, (name, rate) in enumerate(found.items()):
+        y = top + number * BAR
+        width = (WIDTH - LEFT - RIGHT) * rate / most
+        parts.append(rectangle(LEFT, y, width, BAR - 2, colours[name]))
+        parts.append(text(LEFT + width + 5, y + BAR - 3, f"{rate:.2f}", size=10))
+    return parts
+
+
+def chart(results):
+    """The picture of the results on the tables of the last size."""
+    results = [result for result in results if result.size == results[-1].size and result.measured]
+    colours = {name: COLOURS[number % len(COLOURS)] for number, name in enumerate(names_of(results))}
+    most = max(rate for result in results for rate in rates(result).values())
+    height = TOP + sum(BAR * len(result.measured) + GAP for result in results) + 44
+    rows = max(result.table.rows for result in results)
+    parts = [
+        "<title>Millions of rows that each program groups in a second</title>",
+        rectangle(0, 0, WIDTH, height, "#ffffff"),
+        text(20, 30, "Grouping a typed CSV table: one key, a sum and a count", size=17, weight="bold"),
+        text(20, 47, f"tables of up to {rows:,} rows", colour="#666666"),
+        *legend(colours),
+        *axis(most, height),
+    ]
+    top = TOP
+    for result in results:
+        parts += bars(result, colours, most, top)
+        top += BAR * len(result.measured) + GAP
+    size = f'width="{WIDTH}" height="{height}" viewBox="0 0 {WIDTH} {height}"'
+    head = f'<svg xmlns="http://www.w3.org/2000/svg" {size} font-family="sans-serif">'
+    return "\n".join([head, *parts, "</svg>"]) + "\n"
