@@ -1,3 +1,4 @@
+pub mod KeyLemmas
 pub mod MemberLemmas
 pub mod NumberLemmas
 pub mod PartitionLemmas

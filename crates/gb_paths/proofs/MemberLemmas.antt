@@ -1,5 +1,5 @@
 -- Rows that ascend: all rows, those that pass a test, and one more at their end.
-use Rattle.std.proofs.Common.{◌≡◌, ℕ, zero, suc, ◌+◌, ◌<◌, ◌≤◌, Bool, List, [], ◌∷◌, ◌++◌, length, get_or, map, filter, take, All, refl, sym, ◌∙◌, ap, arith, eqb, inl, inr}
+use Rattle.std.proofs.Common.{◌≡◌, ℕ, zero, suc, ◌+◌, ◌<◌, ◌≤◌, Bool, List, [], ◌∷◌, ◌++◌, length, get_or, map, filter, take, All, refl, sym, ◌∙◌, ap, arith, eqb, inl, inr, zero-add}
 use Rattle.std.specs.List.{range_with_len, AllByRecursion}
 use Rattle.std.specs.List.Sorted.{IsNonDecreasing, IsStrictlyIncreasing}
 use Rattle.std.proofs.lemmas.List.{get_or-map, length-map}
@@ -130,3 +130,9 @@ rows_within n count hash hashes hashed within = recursion_from_All (λ i. partit
     let place : k < length hashes = omega (arith, lt, ap length hashed, length-map (rows_below count) hash) in
     let at : get_or hashes k 0 ≡ hash (get_or (rows_below count) k d) = ap (λ hs. get_or hs k 0) hashed ∙ get_or-map hash (rows_below count) k d 0 lt in
     rw (← at) (within k 0 place))
+
+-- the hash of a row among those of all rows
+pub hash_of_row : (hash : ℕ → ℕ) (count : ℕ) (hashes : List ℕ) (row : ℕ) → hashes ≡ map hash (rows_below count) → row < count → get_or hashes row 0 ≡ hash row
+hash_of_row hash count hashes row hashed lt =
+    let inside : row < length (rows_below count) = omega (arith, length-range_with_len 0 count, lt) in
+    ap (λ hs. get_or hs row 0) hashed ∙ get_or-map hash (rows_below count) row 0 0 inside ∙ ap hash (get_or-range_with_len 0 count row 0 lt ∙ zero-add row)

@@ -8,6 +8,7 @@ ghost use Rattle.gb_cols.specs.PlSmallStr.{IsNoMemory};
 ghost use Rattle.gb_paths.specs.Numbers.{AreMembers, lists_by, same_slot_at};
 
 use gb_cols::error::PolarsResult;
+use gb_hash::group_table::GroupTable;
 use gb_hash::key_rows::KeyRows;
 use gb_hash::steps::Steps;
 use std::alloc::Global;
@@ -39,5 +40,16 @@ pub fn number_rows<R: KeyRows, L: Ledger>(
     ensures steps { OnOk result (steps.new ≡ steps.old + length members.now) }
     ensures steps_at_most { steps.new ≤ steps.old + length members.now }
 {
-    Err(gb_cols::error::PolarsError::NoMemory)
+    let mut table: GroupTable<R::Key> = GroupTable::new(alloc)?;
+    let mut first = Vec::new(alloc);
+    let mut numbers = Vec::with_capacity(alloc, members.len())?;
+    for row in members {
+        let key = rows.key_at(*row as usize, steps);
+        let number = table.number_of(key, hashes[*row as usize])?;
+        if number as usize == first.len() {
+            first.push(*row)?;
+        }
+        numbers.push_reserved(number);
+    }
+    Ok(RowNumbers { first, numbers })
 }
