@@ -68,11 +68,13 @@ ByPairs (r ∷ rs) = AllByRecursion (λ s. r < s) rs × ByPairs rs
 pairs_from : (rows : List ℕ) → IsStrictlyIncreasing rows → ByPairs rows
 pairs_from [] up = tt
 pairs_from (r ∷ rs) up =
-    let pairs = AllPairs-from_increasing (r ∷ rs) up in
-    (recursion_from_All (λ s. r < s) rs (λ k d lt. pairs 0 (suc k) d (omega arith) (omega (arith, lt))), pairs_from rs (λ k within.
-    let next : suc k + 1 ≡ suc (k + 1) = omega arith in
-    let here = up (suc k) (omega (arith, within)) in
-    rw next at here))
+    let pairs = AllPairs-from_increasing (r ∷ rs) up in (
+      recursion_from_All (λ s. r < s) rs (λ k d lt. pairs 0 (suc k) d (omega arith) (omega (arith, lt))),
+      pairs_from rs (λ k within.
+          let next : suc k + 1 ≡ suc (k + 1) = omega arith in
+          let here = up (suc k) (omega (arith, within)) in
+          rw next at here),
+    )
 
 pairs_ascend : (rows : List ℕ) → ByPairs rows → IsStrictlyIncreasing rows
 pairs_ascend [] h k within = absurd (omega (arith, within))

@@ -3,13 +3,16 @@
 
 ghost use Rattle.std.specs.Prelude.{◌≡◌, ℕ, ◌<◌, ◌≤◌, ◌^◌, All, map, length, IfOk, IfErr};
 ghost use Rattle.std.specs.Thread.{IsSync};
-ghost use Rattle.gb_defs.specs.Classes.{groups, rows_below};
+ghost use Rattle.gb_defs.specs.Classes.{groups, rows_below, same_slot};
+ghost use Rattle.gb_defs.specs.Hash.{hash_of};
+ghost use Rattle.gb_defs.specs.Slot.{slot_at};
 ghost use Rattle.gb_defs.specs.Groups.{Idx};
 ghost use Rattle.gb_defs.specs.Partitions.{threaded_groups};
 ghost use Rattle.gb_cols.specs.PlSmallStr.{IsNoMemory};
 ghost use Rattle.gb_groups.specs.Groups.{lists_of, pairs_of};
 ghost use Rattle.gb_groups.specs.GroupsType.{groups_of};
 ghost use Rattle.gb_paths.specs.Numbers.{AreMembers, same_slot_at};
+ghost use Rattle.gb_paths.specs.Tuples.{number_slots};
 
 use crate::partitions::partition_rows;
 use crate::row_groups::group_members;
@@ -19,9 +22,13 @@ use gb_cols::error::PolarsResult;
 use gb_cols::pool::Pool;
 use gb_groups::groups_idx::{GroupsIdx, IdxItem, IdxVec};
 use gb_groups::groups_type::GroupsType;
+use gb_hash::dirty_hash::DirtyHash;
 use gb_hash::key_rows::KeyRows;
+use gb_hash::mixer::Mixer;
+use gb_hash::slice_rows::SliceRows;
 use gb_hash::steps::Steps;
 use std::alloc::Global;
+use std::hash::Hash;
 use std::marker::Brand;
 use std::sync::ledger::{Blank, Ledger};
 use std::thread::Threads;
@@ -51,6 +58,32 @@ pub fn group_by_threaded_iter<T: Threads + Sync, R: KeyRows, G: Gate + Sync>(
         groups.sort()?;
     }
     Ok(GroupsType::from(groups))
+}
+
+/// `group_by_threaded_iter` over keys in a list.
+pub fn group_by_threaded_slice<
+    T: Threads + Sync,
+    K: Copy + Eq + Hash + Send + Sync + DirtyHash,
+    M: Mixer + Sync,
+    G: Gate + Sync,
+>(
+    rt: &T,
+    alloc: Global,
+    keys: &[K],
+    mixer: M,
+    n_partitions: usize,
+    sorted: bool,
+    pool: &Pool,
+    gate: &G,
+) -> PolarsResult<GroupsType>
+    requires row_type { IsSync T.row }
+    requires few { length keys.now < 2 ^ 32 }
+    requires some { 1 ≤ n_partitions }
+    ensures ok { IfOk result (λ g. groups_of g ≡ record { pairs = threaded_groups (same_slot (number_slots K.number keys.now)) (λ i. hash_of K.width (M.seed_of mixer) (M.mix_of mixer) (slot_at (number_slots K.number keys.now) i)) n_partitions sorted (rows_below (length keys.now)); form = Idx; flagged = sorted }) }
+    ensures err { IfErr result IsNoMemory }
+{
+    let rows = SliceRows::new(keys, mixer);
+    group_by_threaded_iter(rt, alloc, &rows, n_partitions, sorted, pool, gate)
 }
 
 // The groups of each partition, in order; the number of the first is given.
