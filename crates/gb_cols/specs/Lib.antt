@@ -5,6 +5,7 @@ pub mod Device
 pub mod FitsPool
 pub mod Memory
 pub mod Native
+pub mod NullableIdx
 pub mod PlSmallStr
 pub mod PolarsError
 pub mod Pool

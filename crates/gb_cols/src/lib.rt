@@ -9,6 +9,7 @@ pub mod data_type;
 pub mod device;
 pub mod error;
 pub mod memory;
+pub mod nullable_idx;
 pub mod numeric;
 pub mod pool;
 pub mod primitive;

@@ -4,6 +4,7 @@ use crate::data_type::DataType;
 use crate::device::{Failed, Sink, Source};
 use crate::error::{Operation, PolarsError, PolarsResult};
 use crate::memory::{MemSink, SoundSource};
+use crate::nullable_idx::NullableIdxSize;
 use crate::numeric::Int64Type;
 use crate::pool::Pool;
 use crate::primitive::PrimitiveArray;
@@ -156,6 +157,21 @@ fn pools(rt: HostRuntime) -> Result<(), Fail> {
         (4, 8, 16, 32)
     );
     assert_eq!(rt; pool.seed(), 5);
+    Ok(())
+}
+
+#[test]
+fn row_numbers_that_may_be_missing(rt: HostRuntime) -> Result<(), Fail> {
+    for (index, row) in [
+        (NullableIdxSize::some(0), Some(0)),
+        (NullableIdxSize::some(4294967294), Some(4294967294)),
+        (NullableIdxSize::null(), None),
+    ] {
+        assert_eq!(rt; index.get(), row);
+        assert_eq!(rt; index.is_null_idx(), row.is_none());
+    }
+    assert!(rt; NullableIdxSize::some(7) != NullableIdxSize::null());
+    assert!(rt; NullableIdxSize::null() == NullableIdxSize::null());
     Ok(())
 }
 
