@@ -7,13 +7,11 @@ ghost use Rattle.gb_defs.specs.Groups.{Idx};
 use crate::items::{count_items, push_items, take_items};
 use crate::iter::GroupsIdxIter;
 use gb_cols::error::PolarsResult;
+pub use gb_cols::nullable_idx::IdxSize;
 use gb_cols::pool::Pool;
 use smallvec::SmallVec;
 use std::alloc::Global;
 use std::marker::Model;
-
-/// A row, or a count of rows.
-pub type IdxSize = u32;
 
 /// The rows of a group. One row takes no allocation.
 pub type IdxVec = SmallVec<u32, 1>;

@@ -1,0 +1,64 @@
+//! Buffers copied one after another into a slice.
+
+ghost use Rattle.std.specs.Prelude.{◌≡◌, length, map};
+ghost use Rattle.std.specs.List.{flat_map, sum_by};
+ghost use Rattle.std.specs.Thread.{IsSync, IsSend};
+ghost use Rattle.gb_defs.specs.Flat.{starts_from};
+ghost use Rattle.gb_flat.specs.Shares.{DealsOut};
+
+use std::thread::{Threads, join_mut};
+
+/// Copies the buffers one after another into the slice, which they fill.
+pub(crate) fn fill<T: Copy>(bufs: &[Vec<T>], room: &mut [T])
+    requires { length room.old ≡ sum_by (λ buf. length buf.items) bufs.now }
+    ensures { room.new ≡ flat_map (λ buf. buf.items) bufs.now }
+{
+    let mut at = 0;
+    for buf in bufs {
+        let end = at + buf.len();
+        room[at..end].copy_from_slice(buf);
+        at = end;
+    }
+}
+
+/// The same, each share of the buffers but the last in a thread of its own. The first buffer begins at
+/// `base` of some whole, and each at its start there.
+#[cycle(shares)]
+pub(crate) fn fill_shares<T: Copy + Send + Sync, R: Threads + Sync>(
+    rt: &R,
+    shares: &[(usize, usize)],
+    base: usize,
+    starts: &[usize],
+    bufs: &[Vec<T>],
+    room: &mut [T],
+)
+    requires row_type { IsSync R.row }
+    requires dealt { DealsOut shares.now (length bufs.now) }
+    requires starts { starts.now ≡ starts_from base (map (λ buf. length buf.items) bufs.now) }
+    requires room { length room.old ≡ sum_by (λ buf. length buf.items) bufs.now }
+    ensures { room.new ≡ flat_map (λ buf. buf.items) bufs.now }
+{
+    let Some((share, later)) = shares.split_first() else {
+        fill(bufs, room);
+        return;
+    };
+    if later.is_empty() {
+        fill(bufs, room);
+        return;
+    }
+    let (mine, others) = bufs.split_at(share.1);
+    let (_, starts) = starts.split_at(share.1);
+    let next = starts[0];
+    let (front, back) = room.split_at_mut(next - base);
+    join_mut(
+        rt,
+        &mut ||
+            requires { length front.now ≡ sum_by (λ buf. length buf.items) mine.now }
+            ensures { front.exit.now ≡ flat_map (λ buf. buf.items) mine.entry.now }
+        { fill(mine, front) },
+        &mut ||
+            requires { IsSync R.row × IsSync T.row × IsSend T.row × DealsOut later.now (length others.now) × (starts.now ≡ starts_from next (map (λ buf. length buf.items) others.now)) × (length back.now ≡ sum_by (λ buf. length buf.items) others.now) }
+            ensures { back.exit.now ≡ flat_map (λ buf. buf.items) others.entry.now }
+        { fill_shares(rt, later, next, starts, others, back) },
+    );
+}
