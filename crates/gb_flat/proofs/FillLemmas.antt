@@ -1,7 +1,6 @@
 -- Buffers that are dealt to workers, and the parts of a slice that they fill.
 use Rattle.std.proofs.Common.{◌≡◌, ◌∙◌, ℕ, zero, suc, ◌+◌, ◌-◌, ◌*◌, ◌/◌, ◌<◌, ◌≤◌, List, [], ◌∷◌, ◌++◌, length, map, take, drop, slice_index_or, refl, sym, ap, subst, add-one, arith}
 use Rattle.std.proofs.lemmas.List.{take-append-drop, drop_at, length-take-le, length-map, length-drop}
-use Rattle.std.proofs.lemmas.List.Concat.{flat_map-append}
 use Rattle.std.proofs.lemmas.List.Sums.{sum_by-take-drop}
 use Rattle.std.proofs.lemmas.Nat.{le-div}
 use Rattle.std.proofs.Math.Nat.{suc-mul, zero-mul}
@@ -88,10 +87,3 @@ ranges_deal n (suc m) some few =
     let some_each : 0 < n / suc m = le-div 1 n (suc m) some (omega arith) in
     let none_before : n - 0 * (n / suc m) ≡ n = rw zero-mul (omega arith) in
     subst (λ (c : ℕ). DealsOut (ranges_of n (suc m)) c) none_before (ranges_dealt n (suc m) 0 m some_each few (omega arith))
-
--- ---- items
-
--- the items of the two parts of some buffers
-pub joined : {X A : Type 0} (f : X → List A) (xs mine others : List X) (n : ℕ) (front back : List A) → mine ≡ take n xs → others ≡ drop n xs → front ≡ flat_map f mine → back ≡ flat_map f others → front ++ back ≡ flat_map f xs
-joined f xs mine others n front back mine_is others_are in_front in_back =
-    rw (in_front, in_back, mine_is, others_are) (sym (flat_map-append f (take n xs) (drop n xs)) ∙ ap (λ ys. flat_map f ys) (take-append-drop n xs))

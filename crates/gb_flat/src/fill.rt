@@ -50,6 +50,29 @@ pub(crate) fn fill_shares<T: Copy + Send + Sync, R: Threads + Sync>(
     let (_, starts) = starts.split_at(share.1);
     let next = starts[0];
     let (front, back) = room.split_at_mut(next - base);
+    fill_both(rt, mine, front, later, next, starts, others, back);
+}
+
+// Fills the front with one share, and the back with the later ones.
+#[cycle(shares)]
+fn fill_both<T: Copy + Send + Sync, R: Threads + Sync>(
+    rt: &R,
+    mine: &[Vec<T>],
+    front: &mut [T],
+    later: &[(usize, usize)],
+    next: usize,
+    starts: &[usize],
+    others: &[Vec<T>],
+    back: &mut [T],
+)
+    requires row_type { IsSync R.row }
+    requires front { length front.old ≡ sum_by (λ buf. length buf.items) mine.now }
+    requires dealt { DealsOut later.now (length others.now) }
+    requires starts { starts.now ≡ starts_from next (map (λ buf. length buf.items) others.now) }
+    requires back { length back.old ≡ sum_by (λ buf. length buf.items) others.now }
+    ensures front { front.new ≡ flat_map (λ buf. buf.items) mine.now }
+    ensures back { back.new ≡ flat_map (λ buf. buf.items) others.now }
+{
     join_mut(
         rt,
         &mut ||
