@@ -4,7 +4,7 @@ use Rattle.std.specs.Prelude.{option_map, option_and_then}
 use Rattle.gb_defs.specs.Column.{Frame}
 use Rattle.gb_defs.specs.Fault.{Fault}
 use Rattle.gb_defs.specs.Fold.{Method}
-use Rattle.gb_defs.specs.Outcome.{Outcome, BadTable, Report, find_columns, outcome, outcome_by_frame, outcome_by_keys}
+use Rattle.gb_defs.specs.Outcome.{Outcome, BadGroup, BadTable, Report, find_columns, outcome, outcome_by_frame, outcome_by_keys}
 use Rattle.gb_defs.specs.Request.{Given, Group, Request, ToolOptions, given_from, group_of, nothing, request}
 use Rattle.gb_defs.specs.Table.{readable_table}
 use Rattle.gb_cols.specs.PolarsError.{cause_of}
@@ -16,7 +16,9 @@ use Rattle.gb_tool.specs.declared.status.TableFault.TheVariants.{BadCell}
 use Rattle.gb_tool.specs.Grouping.{IsRefusal, IsRefusedFor}
 use Rattle.gb_tool.specs.Request.{HasOneKey}
 use Rattle.gb_tool.specs.Run.{IsRefusedReport}
-use Rattle.gb_tool.specs.Status.{of_cause, of_group, of_table}
+use Rattle.gb_tool.specs.Status.{IsStatusOf, IsTold, IsToldOf, of_table}
+use Rattle.gb_tool.specs.declared.status.Status.{Status}
+use Rattle.gb_tool.specs.declared.status.Status.TheVariants as status
 use Rattle.gb_tool.specs.Table.{IsRefusedTable}
 
 -- the names of one key
@@ -60,12 +62,16 @@ module _ (by : List (List ℕ)) (aggs : List (List ℕ × Method)) (options : To
     unfolding outcome
     read_outcome = ap (outcome_by_frame by aggs options.null_word) read
 
-    refused_cause : (known : Option Fault) (o : Outcome) → IsRefusedFor known o → IsRefusedReport (of_cause known) o
-    refused_cause None o h = tt
-    refused_cause (Some fault) o h = (refl, h)
+    told_report : (f : Fault) (o : Outcome) (s : Status) → o ≡ BadGroup f → IsTold f s → IsRefusedReport s o
+    told_report f o (status.Group e) h t = (f, t, h)
+    told_report f o _ h t = absurd t
 
-    pub bad_group : (e : PolarsError) → IsRefusal e (outcome_by_keys frame aggs options.null_word (find_columns frame by)) → IsRefusedReport (of_group e) (outcome (Group by aggs options) bytes)
-    bad_group e h = rw read_outcome (refused_cause (cause_of e) _ h)
+    refused_cause : (known : Option Fault) (o : Outcome) (s : Status) → IsRefusedFor known o → IsToldOf known s → IsRefusedReport s o
+    refused_cause None o s h t = rw t tt
+    refused_cause (Some f) o s h t = told_report f o s h t
+
+    pub bad_group : (e : PolarsError) (s : Status) → IsRefusal e (outcome_by_keys frame aggs options.null_word (find_columns frame by)) → IsStatusOf e s → IsRefusedReport s (outcome (Group by aggs options) bytes)
+    bad_group e s h t = rw read_outcome (refused_cause (cause_of e) _ s h t)
 
     pub good_report : (text : List ℕ) → outcome_by_keys frame aggs options.null_word (find_columns frame by) ≡ Report text → outcome (Group by aggs options) bytes ≡ Report text
     good_report text h = read_outcome ∙ h

@@ -1,7 +1,13 @@
--- What the cause of a status says of an input past the limit.
-use Rattle.std.proofs.Common.{◌≡◌, ◌<◌, ◌≤◌, ℕ, List, [], ◌∷◌, length, Some, inl, inr, refl, arith}
+-- What the cause of a status says: of an input past the limit, and of an error of the grouping.
+use Rattle.std.proofs.Common.{◌≡◌, ◌<◌, ◌≤◌, ◌⊎◌, ℕ, List, [], ◌∷◌, length, Some, inl, inr, refl, subst, arith}
+use Rattle.std.specs.Prelude.{IsSome}
+use Rattle.gb_defs.specs.Fault as fault
 use Rattle.gb_defs.specs.Request as asked
 use Rattle.gb_defs.specs.Outcome.{Outcome, BadTable, BadGroup, Report}
+use Rattle.gb_cols.specs.PlSmallStr.{text_of}
+use Rattle.gb_cols.specs.declared.small_str.PlSmallStr.{PlSmallStr}
+use Rattle.gb_cols.specs.declared.error.PolarsError.{PolarsError}
+use Rattle.gb_cols.specs.declared.error.PolarsError.TheVariants.{ColumnNotFound, ComputeError}
 use Rattle.gb_tool.specs.declared.status.Status.{Status}
 use Rattle.gb_tool.specs.declared.status.Status.TheVariants.{Done, Usage, Table, Group, ReadFault, WriteFault, TooLong, NoMemory}
 use Rattle.gb_tool.specs.Run.{Comes, HasCause, IsOneOf, Run}
@@ -15,8 +21,22 @@ module _ (run : Run) (q : asked.Request) (bytes : List ℕ) (e : run.request ≡
   long_input Done h = short (Report h.0) h.1.comes
   long_input Usage h = cc (h.0)
   long_input (Table fault) h = short BadTable h.1
-  long_input (Group x) h = short BadGroup h.1
+  long_input (Group x) h = short (BadGroup h.0) h.2
   long_input ReadFault h = inr (inl refl)
   long_input WriteFault h = short (Report h.0) h.1.comes
   long_input TooLong h = inl refl
   long_input NoMemory h = inr (inr (inl refl))
+
+module _ (run : Run) (s : Status) (cause : HasCause run s) where
+  pub missing_named : (name : PlSmallStr) → s ≡ Group (ColumnNotFound name) → IsSome run.request × Comes run.request run.input run.limit (BadGroup (fault.ColumnNotFound (text_of name)))
+  missing_named name e =
+      let h : HasCause run (Group (ColumnNotFound name)) = subst (HasCause run) e cause in
+      (h.3.some, subst (λ f. Comes run.request run.input run.limit (BadGroup f)) h.1 h.2)
+
+  pub errors_told : (e : PolarsError) → s ≡ Group e → (e ≡ ComputeError) ⊎ ((name : PlSmallStr) × (e ≡ ColumnNotFound name))
+  errors_told e is = told e (subst (HasCause run) is cause)
+    where
+      told : (e : PolarsError) → HasCause run (Group e) → (e ≡ ComputeError) ⊎ ((name : PlSmallStr) × (e ≡ ColumnNotFound name))
+      told ComputeError h = inl refl
+      told (ColumnNotFound name) h = inr (name, refl)
+      told _ h = absurd h.1

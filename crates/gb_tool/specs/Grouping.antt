@@ -9,9 +9,9 @@ use Rattle.gb_cols.specs.declared.error.PolarsError.{PolarsError}
 
 abbrev pub IsRefusedFor : Option Fault → Outcome → Type 0
 IsRefusedFor None o = Unit {0}
-IsRefusedFor (Some cause) o = o ≡ BadGroup
+IsRefusedFor (Some cause) o = o ≡ BadGroup cause
 
--- the error is want of memory, or the grouping has a fault
+-- the error is want of memory, or it names the fault of the grouping
 abbrev pub IsRefusal : PolarsError → Outcome → Type 0
 IsRefusal e o = IsRefusedFor (cause_of e) o
 

@@ -3,10 +3,11 @@
 use Rattle.std.specs.Prelude.{◌≡◌, ℕ, ◌<◌, ◌≤◌, ◌+◌, List, [], ◌++◌, length, map, take, ◌⊎◌, ◌∷◌, Option, Some, None, IfSome, IsSome, option_map, Result, Ok, Err, String}
 use Rattle.std.specs.String.{string_bytes}
 use Rattle.gb_defs.specs.Request as asked
+use Rattle.gb_defs.specs.Fault.{Fault}
 use Rattle.gb_defs.specs.Outcome.{Outcome, BadTable, BadGroup, Report, outcome}
 use Rattle.gb_cols.specs.Device.{Rose}
-use Rattle.gb_cols.specs.declared.error.PolarsError.TheVariants.{ComputeError}
 use Rattle.gb_tool.specs.declared.status.TableFault.TheVariants.{BadCell}
+use Rattle.gb_tool.specs.Status.{Tells}
 use Rattle.gb_tool.specs.declared.status.Status.{Status}
 use Rattle.gb_tool.specs.declared.status.Status.TheVariants.{Done, Usage, Table, Group, ReadFault, WriteFault, TooLong, NoMemory}
 
@@ -45,7 +46,7 @@ pub record HoldsPart (text : List ℕ) (before after : Option (List ℕ)) : Type
 -- why there is no text for this outcome
 abbrev pub IsRefusedReport : Status → Outcome → Type 0
 IsRefusedReport (Table fault) o = (fault ≡ BadCell 0 0) × (o ≡ BadTable)
-IsRefusedReport (Group e) o = (e ≡ ComputeError) × (o ≡ BadGroup)
+IsRefusedReport (Group e) o = (f : Fault) × Tells e f × (o ≡ BadGroup f)
 IsRefusedReport NoMemory o = Unit {0}
 IsRefusedReport _ o = ⊥
 
@@ -94,7 +95,7 @@ abbrev pub HasCause : Run → Status → Type 0
 HasCause run Done = (text : List ℕ) × HasText run text × Holds text run.held run.held_after
 HasCause run Usage = (run.request ≡ None) × (run.held_after ≡ run.held)
 HasCause run (Table fault) = (fault ≡ BadCell 0 0) × Comes run.request run.input run.limit BadTable × HasStopped run
-HasCause run (Group e) = (e ≡ ComputeError) × Comes run.request run.input run.limit BadGroup × HasStopped run
+HasCause run (Group e) = (f : Fault) × Tells e f × Comes run.request run.input run.limit (BadGroup f) × HasStopped run
 HasCause run ReadFault = Rose run.read_faults run.read_faults_after × HasStopped run
 HasCause run WriteFault = (text : List ℕ) × HasText run text × HoldsPart text run.held run.held_after × Rose run.write_faults run.write_faults_after
 HasCause run TooLong = IfSome run.input (λ bytes. run.limit < length bytes) × HasStopped run

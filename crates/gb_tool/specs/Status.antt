@@ -1,7 +1,8 @@
 -- The exit status, and the status that an error comes to.
-use Rattle.std.specs.Prelude.{ℕ, Option, Some, None}
+use Rattle.std.specs.Prelude.{◌≡◌, ◌≢◌, ℕ, List, Option, Some, None}
 use Rattle.gb_defs.specs.Fault as fault
 use Rattle.gb_cols.specs.PolarsError.{cause_of}
+use Rattle.gb_cols.specs.PlSmallStr.{text_of}
 use Rattle.gb_cols.specs.declared.error.PolarsError.{PolarsError}
 use Rattle.gb_cols.specs.declared.error.PolarsError.TheVariants as polars
 use Rattle.gb_tool.specs.declared.status.TableError.{TableError}
@@ -24,10 +25,21 @@ abbrev pub of_table : TableError → Status
 of_table (error.Fault fault) = Table fault
 of_table error.NoMemory = NoMemory
 
-abbrev pub of_cause : Option fault.Fault → Status
-of_cause None = NoMemory
-of_cause (Some cause) = Group polars.ComputeError
+-- the error tells this fault: a missing column by its name, any other fault as ComputeError
+abbrev pub Tells : PolarsError → fault.Fault → Type 0
+Tells (polars.ColumnNotFound name) f = f ≡ fault.ColumnNotFound (text_of name)
+Tells polars.ComputeError f = (name : List ℕ) → f ≢ fault.ColumnNotFound name
+Tells _ f = ⊥
 
--- the fault is not told today
-abbrev pub of_group : PolarsError → Status
-of_group e = of_cause (cause_of e)
+-- the status of a grouping with this fault
+abbrev pub IsTold : fault.Fault → Status → Type 0
+IsTold f (Group e) = Tells e f
+IsTold f _ = ⊥
+
+-- the status that an error's cause comes to
+abbrev pub IsToldOf : Option fault.Fault → Status → Type 0
+IsToldOf None s = s ≡ NoMemory
+IsToldOf (Some cause) s = IsTold cause s
+
+abbrev pub IsStatusOf : PolarsError → Status → Type 0
+IsStatusOf e s = IsToldOf (cause_of e) s

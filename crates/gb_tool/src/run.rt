@@ -1,12 +1,16 @@
 //! The top call of the program.
 
-ghost use Rattle.std.specs.Prelude.{◌≡◌, ◌≢◌, ◌≤◌, ◌<◌, ◌+◌, [], ◌∷◌, ℕ, Err, IfSome, IsSome, List, None, Some, length};
+ghost use Rattle.std.specs.Prelude.{◌≡◌, ◌≢◌, ◌≤◌, ◌<◌, ◌+◌, ◌⊎◌, [], ◌∷◌, ℕ, Err, IfSome, IsSome, List, None, Some, length};
 ghost use Rattle.std.specs.Thread.{IsSync};
+ghost use Rattle.gb_defs.specs.Fault as fault;
 ghost use Rattle.gb_defs.specs.Outcome.{BadGroup, BadTable, Report, outcome};
 ghost use Rattle.gb_cols.specs.Device.{Rose};
+ghost use Rattle.gb_cols.specs.PlSmallStr.{text_of};
+ghost use Rattle.gb_cols.specs.declared.small_str.PlSmallStr.{PlSmallStr};
 ghost use Rattle.gb_cols.specs.declared.error.PolarsError.{PolarsError};
-ghost use Rattle.gb_cols.specs.declared.error.PolarsError.TheVariants.{ComputeError};
+ghost use Rattle.gb_cols.specs.declared.error.PolarsError.TheVariants.{ColumnNotFound, ComputeError};
 ghost use Rattle.gb_tool.specs.Run.{Comes, HasCause, HasTaken, Holds, HoldsPart, IsOneOf, Run, WhereTold, asked_by, status_of};
+ghost use Rattle.gb_tool.specs.Status.{IsTold};
 ghost use Rattle.gb_tool.specs.declared.status.TableFault.{TableFault};
 ghost use Rattle.gb_tool.specs.declared.status.TableFault.TheVariants.{BadCell};
 ghost use Rattle.gb_tool.specs.declared.status.Status.TheVariants as status;
@@ -97,10 +101,14 @@ pub fn run<R: Threads + Sync, S: Source, W: Sink, E: Sink, G: Gate + Sync>(
     ensures bad_table { WhereTold (asked_by words.now) (S.left source.old) (λ q bytes. length bytes ≤ limits.input_bytes → outcome q bytes ≡ BadTable
         → IsOneOf (status.Table (BadCell 0 0) ∷ status.ReadFault ∷ status.NoMemory ∷ []) result) }
 
-    // The grouping is at fault.
-    ensures group { (e : PolarsError) → result ≡ status.Group e → (e ≡ ComputeError) × IsSome (asked_by words.now) × Comes (asked_by words.now) (S.left source.old) limits.input_bytes BadGroup }
-    ensures bad_group { WhereTold (asked_by words.now) (S.left source.old) (λ q bytes. length bytes ≤ limits.input_bytes → outcome q bytes ≡ BadGroup
-        → IsOneOf (status.Group ComputeError ∷ status.ReadFault ∷ status.NoMemory ∷ []) result) }
+    // The grouping is at fault: a column is missing, or there is another fault.
+    ensures column_not_found { (name : PlSmallStr) → result ≡ status.Group (ColumnNotFound name) → IsSome (asked_by words.now)
+        × Comes (asked_by words.now) (S.left source.old) limits.input_bytes (BadGroup (fault.ColumnNotFound (text_of name))) }
+    ensures group { result ≡ status.Group ComputeError → IsSome (asked_by words.now)
+        × ((f : fault.Fault) × ((name : List ℕ) → f ≢ fault.ColumnNotFound name) × Comes (asked_by words.now) (S.left source.old) limits.input_bytes (BadGroup f)) }
+    ensures group_errors { (e : PolarsError) → result ≡ status.Group e → (e ≡ ComputeError) ⊎ ((name : PlSmallStr) × (e ≡ ColumnNotFound name)) }
+    ensures bad_group { WhereTold (asked_by words.now) (S.left source.old) (λ q bytes. length bytes ≤ limits.input_bytes → (f : fault.Fault) → outcome q bytes ≡ BadGroup f
+        → IsTold f result ⊎ IsOneOf (status.ReadFault ∷ status.NoMemory ∷ []) result) }
 
     // The sink failed, and has taken a part of the text.
     ensures write_fault { result ≡ status.WriteFault → IsSome (asked_by words.now) × Rose (W.faults sink.old) (W.faults sink.new)

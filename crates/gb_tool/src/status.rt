@@ -75,15 +75,16 @@ impl From<TableError> for Status {
     }
 }
 
-/// Which fault it was is not told today.
+/// A missing column is told by its name; which other fault it was is not told today.
 impl From<PolarsError> for Status {
-    ghost use Rattle.gb_tool.specs.Status.{of_group};
+    ghost use Rattle.gb_tool.specs.Status.{IsStatusOf};
 
-    ghost from_gives = { λ e status. status ≡ of_group e };
+    ghost from_gives = { λ e status. IsStatusOf e status };
 
     fn from(e: PolarsError) -> Status {
         match e {
             PolarsError::NoMemory => Status::NoMemory,
+            PolarsError::ColumnNotFound(name) => Status::Group(PolarsError::ColumnNotFound(name)),
             _ => Status::Group(PolarsError::ComputeError),
         }
     }

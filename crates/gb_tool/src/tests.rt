@@ -4,7 +4,9 @@ ghost use Rattle.std.specs.Prelude.{◌≤◌};
 ghost use Rattle.std.specs.Thread.{IsSync};
 
 use crate::run::{Limits, run};
+use crate::status::Status;
 use gb_cols::device::{Failed, Source};
+use gb_cols::error::PolarsError;
 use gb_cols::memory::{FreeGate, MemSink, SoundSource};
 use std::alloc::Global;
 use std::test::Fail;
@@ -38,15 +40,15 @@ fn source_of(alloc: Global, input: &str) -> Result<SoundSource, Fail> {
     Ok(SoundSource::new(Vec::from_slice(alloc, input.as_bytes())?))
 }
 
-// The exit status of a run of these words.
-fn code_of<R: Threads + Sync, S: Source>(
+// How a run of these words ends.
+fn status_of<R: Threads + Sync, S: Source>(
     rt: &R,
     alloc: Global,
     words: &str,
     limit: u64,
     source: &mut S,
     sink: &mut MemSink,
-) -> Result<u8, Fail>
+) -> Result<Status, Fail>
     requires row_type { IsSync R.row }
     requires limit { limit ≤ 4294967295 }
 {
@@ -56,7 +58,7 @@ fn code_of<R: Threads + Sync, S: Source>(
     }
     let mut notes = MemSink::new(alloc, 0, 1, Vec::new(alloc))?;
     let limits = Limits { input_bytes: limit };
-    let status = run(
+    Ok(run(
         rt,
         alloc,
         spelled.as_slice(),
@@ -65,8 +67,7 @@ fn code_of<R: Threads + Sync, S: Source>(
         sink,
         &mut notes,
         &FreeGate,
-    );
-    Ok(status.code())
+    ))
 }
 
 /// Words, an input, the exit status and what is written.
@@ -139,9 +140,55 @@ fn rows_end_as_they_say(rt: HostRuntime) -> Result<(), Fail> {
     for row in &ROWS {
         let mut source = source_of(rt.alloc(), row.input)?;
         let mut sink = MemSink::new(rt.alloc(), 4096, 4096, Vec::new(rt.alloc()))?;
-        let code = code_of(&rt, rt.alloc(), row.words, 4096, &mut source, &mut sink)?;
-        assert_eq!(rt; code, row.code);
+        let status = status_of(&rt, rt.alloc(), row.words, 4096, &mut source, &mut sink)?;
+        assert_eq!(rt; status.code(), row.code);
         assert_eq!(rt; sink.bytes(), row.wrote.as_bytes());
+    }
+    Ok(())
+}
+
+/// Words of a grouping with a fault, and the column that its error names; any other error has none.
+struct Faulty {
+    words: &'static str,
+    missing: Option<&'static str>,
+}
+
+const FAULTY: [Faulty; 5] = [
+    Faulty {
+        words: "group --by day",
+        missing: Some("day"),
+    },
+    Faulty {
+        words: "group --by date --agg sum:date --agg sum:warmth",
+        missing: Some("warmth"),
+    },
+    Faulty {
+        words: "group --by day --agg sum:warmth",
+        missing: Some("day"),
+    },
+    Faulty {
+        words: "group --by date --agg sum:date",
+        missing: None,
+    },
+    Faulty {
+        words: "group --by date --agg sum:temp --agg sum:temp",
+        missing: None,
+    },
+];
+
+#[test]
+fn faults_are_told(rt: HostRuntime) -> Result<(), Fail> {
+    for row in &FAULTY {
+        let mut source = source_of(rt.alloc(), DAYS)?;
+        let mut sink = MemSink::new(rt.alloc(), 4096, 4096, Vec::new(rt.alloc()))?;
+        let status = status_of(&rt, rt.alloc(), row.words, 4096, &mut source, &mut sink)?;
+        let missing = match &status {
+            Status::Group(PolarsError::ColumnNotFound(name)) => Some(name.as_str()),
+            Status::Group(PolarsError::ComputeError) => None,
+            _ => Some("no fault"),
+        };
+        assert_eq!(rt; missing, row.missing);
+        assert!(rt; sink.bytes().is_empty());
     }
     Ok(())
 }
@@ -151,17 +198,17 @@ fn devices_fail(rt: HostRuntime) -> Result<(), Fail> {
     let mut source = source_of(rt.alloc(), DAYS)?;
     let failing = Vec::from_slice(rt.alloc(), &[2])?;
     let mut sink = MemSink::new(rt.alloc(), 4096, 7, failing)?;
-    let code = code_of(&rt, rt.alloc(), SUMS, 4096, &mut source, &mut sink)?;
-    assert_eq!(rt; code, 6);
+    let status = status_of(&rt, rt.alloc(), SUMS, 4096, &mut source, &mut sink)?;
+    assert_eq!(rt; status.code(), 6);
     assert_eq!(rt; sink.bytes(), b"date:st".as_slice());
 
     let mut source = source_of(rt.alloc(), DAYS)?;
-    let code = code_of(&rt, rt.alloc(), SUMS, 10, &mut source, &mut sink)?;
-    assert_eq!(rt; code, 7);
+    let status = status_of(&rt, rt.alloc(), SUMS, 10, &mut source, &mut sink)?;
+    assert_eq!(rt; status.code(), 7);
 
     let mut source = FailingSource { faults: 0 };
-    let code = code_of(&rt, rt.alloc(), SUMS, 4096, &mut source, &mut sink)?;
-    assert_eq!(rt; code, 5);
+    let status = status_of(&rt, rt.alloc(), SUMS, 4096, &mut source, &mut sink)?;
+    assert_eq!(rt; status.code(), 5);
     assert_eq!(rt; sink.bytes(), b"date:st".as_slice());
     Ok(())
 }

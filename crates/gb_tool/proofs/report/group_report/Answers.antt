@@ -15,8 +15,8 @@ pub returns-in_err-answer-clause-err : goal.returns-in_err-answer-clause-err
 returns-in_err-answer-clause-err g c =
     let p = err_from_is_err_and c.from_residual-in_err-answer.result c.from_residual-in_err-answer.ensures.1 in
     let read = rw c.as_str-null_word.ensures at c.in_ok-frame.ensures.ok in
-    rw (p.1, p.2) (bad_group (text_of c.args.by.now ∷ []) (aggs_of c.args.aggs.now) (options_of c.args.options.now) c.args.bytes.now c.in_ok-frame.frame read c.in_err-answer.field-0.0
-    (c.in_err-answer.ensures.err (text_of c.args.options.now.null_word)))
+    rw p.1 (bad_group (text_of c.args.by.now ∷ []) (aggs_of c.args.aggs.now) (options_of c.args.options.now) c.args.bytes.now c.in_ok-frame.frame read c.in_err-answer.field-0.0 p.0
+    (c.in_err-answer.ensures.err (text_of c.args.options.now.null_word)) p.2)
 
 pub returns-clause-ok : goal.returns-clause-ok
 returns-clause-ok g c =

@@ -1,4 +1,4 @@
-use Rattle.gb_tool.proofs.RunLemmas.{long_input}
+use Rattle.gb_tool.proofs.RunLemmas.{errors_told, long_input, missing_named}
 use Rattle.gb_tool.proofs.run.run.Goals as goal
 
 pub returns-in-Ok-clause-long_input : goal.returns-in-Ok-clause-long_input
@@ -6,3 +6,9 @@ returns-in-Ok-clause-long_input g c = λ q bytes e t long. long_input _ q bytes 
 
 pub returns-in-Err-clause-long_input : goal.returns-in-Err-clause-long_input
 returns-in-Err-clause-long_input g c = λ q bytes e t long. long_input _ q bytes e t long _ c.in-Err.ensures.cause
+
+pub returns-in-Err-clause-column_not_found : goal.returns-in-Err-clause-column_not_found
+returns-in-Err-clause-column_not_found g c = missing_named _ _ c.in-Err.ensures.cause
+
+pub returns-in-Err-clause-group_errors : goal.returns-in-Err-clause-group_errors
+returns-in-Err-clause-group_errors g c = errors_told _ _ c.in-Err.ensures.cause
