@@ -1,18 +1,19 @@
 -- The loops that make the columns of an answer.
 use Rattle.std.proofs.Common.{◌≡◌, ℕ, ◌+◌, ◌<◌, ℤ, ◌+ℤ◌, List, ◌++◌, ◌∷◌, [], Option, Some, None, length, map, take, get_or, refl, sym, ◌∙◌, ap, Bool, true, false, arith}
 use Rattle.std.specs.Option.{MatchOption}
-use Rattle.std.proofs.lemmas.List.{length_push, length-map, get_or-map, map_more}
+use Rattle.std.proofs.lemmas.List.{length-map, get_or-map, map_more}
 use Rattle.smallvec.specs.SmallVec.{SmallVec}
 use Rattle.gb_groups.specs.Groups.{lists_of}
 use Rattle.gb_defs.specs.Slot.{Slot, Nil, Num}
 use Rattle.gb_defs.specs.ColumnType.{ColumnType, uint32}
 use Rattle.gb_defs.specs.Answer.{aggregated, answer_name}
 use Rattle.gb_tool.specs.Folds.{sum_of, valid_count}
-use Rattle.gb_defs.specs.Column.{ColumnValue, NotSorted, content, plain_column}
+use Rattle.gb_defs.specs.Column.{ColumnValue, content, plain_column}
 use Rattle.gb_defs.specs.Fold.{Sum, Count, fold_picked, fold_of, number_slot, sum_type, wrap, total, valid}
 use Rattle.gb_defs.proofs.FoldLemmas.{sum_push_null, sum_push_value}
 use Rattle.gb_cols.specs.Array.{number_slot_of}
 use Rattle.gb_cols.specs.Column.{pushed}
+use Rattle.gb_tool.proofs.PushLemmas.{pushed_plain}
 
 -- the columns are the aggregates
 module _ (name : List ℕ) (c : ColumnValue) (lists : List (List ℕ)) where
@@ -38,11 +39,6 @@ pub sum_next : {N : Type 0} (number : N → ℤ) (t : ColumnType) (slot : Option
     number before ≡ wrap t (total (valid ss)) → number after ≡ wrap t (total (valid (ss ++ number_slot_of number slot ∷ [])))
 sum_next number t None before after ss e h = ap number e ∙ h ∙ sum_push_null t ss Nil refl
 sum_next number t (Some n) before after ss e h = e ∙ ap (λ b. wrap t (b +ℤ number n)) h ∙ sum_push_value t ss (Num (number n)) refl
-
--- a push to a column in one chunk
-pub pushed_plain : (name : List ℕ) (t : ColumnType) (ss : List Slot) (s : Slot) → pushed (plain_column name t ss) s ≡ plain_column name t (ss ++ s ∷ [])
-pushed_plain name t ss s =
-    ap (λ n. record { name = name; dtype = t; slots = ss ++ s ∷ []; chunks = n ∷ []; sorted = NotSorted; all_used = false }) (sym (length_push ss s))
 
 module _ (lists : List (SmallVec ℕ)) (i : ℕ) (rows : SmallVec ℕ) (lt : i < length lists) (read : rows ≡ get_or lists i rows) where
   -- what the loop over the lists has at hand

@@ -127,6 +127,18 @@ module _ (agree : ℕ → ℕ → Bool) (n : ℕ) where
   pub lists_few : length (map (λ (p : ℕ × List ℕ). p.1) (groups agree (rows_below n))) ≤ n
   lists_few = rw (groups_lists agree (rows_below n), length-map (firsts agree (rows_below n)) (class agree (rows_below n))) (firsts_few agree n)
 
+-- the first rows and the row lists of the groups of a key
+pub record AreGroups (key : ColumnValue) (rows : List ℕ) (lists : List (List ℕ)) : Type 0 where
+  pub first_rows : rows ≡ map (λ (p : ℕ × List ℕ). p.0) (groups (same_slot key.slots) (rows_below (length key.slots)))
+  pub row_lists : lists ≡ map (λ (p : ℕ × List ℕ). p.1) (groups (same_slot key.slots) (rows_below (length key.slots)))
+
+pub are_groups : (key : ColumnValue) (pairs : List (ℕ × List ℕ)) (rows : List ℕ) (lists : List (List ℕ)) → pairs ≡ groups (same_slot key.slots) (rows_below (length key.slots))
+    → rows ≡ map (λ (p : ℕ × List ℕ). p.0) pairs → lists ≡ map (λ (p : ℕ × List ℕ). p.1) pairs → AreGroups key rows lists
+are_groups key pairs rows lists e firsts_are lists_are = record {
+  first_rows = firsts_are ∙ ap (map (λ (p : ℕ × List ℕ). p.0)) e;
+  row_lists = lists_are ∙ ap (map (λ (p : ℕ × List ℕ). p.1)) e;
+}
+
 -- ---- the columns of an answer
 
 names_content : (cs : Frame) → names_of cs ≡ map (λ (c : Content). c.name) (map content cs)
@@ -226,24 +238,41 @@ module _ (frame : Frame) (name : List ℕ) (key : ColumnValue) (found : find_col
       pub refused_unfit : (known : Option Fault) → IsCause known (unfit_fault frame aggs) → Refused known
       refused_unfit known h = refused known (rw (fault_left, rows_none short, there) (cause_first known _ _ h))
 
-      pub fault_named : unfit_fault frame aggs ≡ None → fault frame (key ∷ []) aggs ≡ duplicate_of (first_repeated (answer_names (key ∷ []) aggs))
+      fault_named : unfit_fault frame aggs ≡ None → fault frame (key ∷ []) aggs ≡ duplicate_of (first_repeated (answer_names (key ∷ []) aggs))
       fault_named fit = rw (fault_left, rows_none short, there, fit)
 
-  -- the text of the columns is that of the answer
-  pub answered : (rows : List ℕ) (lists : List (List ℕ)) (columns : Frame) →
-      rows ≡ map (λ (p : ℕ × List ℕ). p.0) (groups (same_slot key.slots) (rows_below (length key.slots))) →
-      lists ≡ map (λ (p : ℕ × List ℕ). p.1) (groups (same_slot key.slots) (rows_below (length key.slots))) →
-      map content columns ≡ key_part key rows ∷ map (λ agg. aggregated agg (find_column frame agg.0) lists) aggs →
-      fault frame (key ∷ []) aggs ≡ None →
-      (null_word : List ℕ) → outcome_by_keys frame aggs null_word (find_columns frame (name ∷ [])) ≡ Report (frame_text (map content columns) null_word)
-  answered rows lists columns rows_are lists_are columns_are none null_word =
-      let agree = same_slot key.slots in
-      let below = rows_below (length key.slots) in
-      reported frame aggs null_word name key found none
-      ∙ ap (λ cs. Report (frame_text cs null_word)) (answer_one frame key key_high aggs
-      ∙ ap (λ rows. key_part key rows ∷ map (λ agg. aggregated agg (find_column frame agg.0) (map (class agree below) (firsts agree below))) aggs) (sym (rows_are ∙ groups_firsts agree below))
-      ∙ ap (λ lists. key_part key rows ∷ map (λ agg. aggregated agg (find_column frame agg.0) lists) aggs) (sym (lists_are ∙ groups_lists agree below))
-      ∙ sym columns_are)
+  -- the groups of the key
+  module _ (rows : List ℕ) (lists : List (List ℕ)) (are : AreGroups key rows lists) where
+    pub rows_within : All (λ row. row < length key.slots) rows
+    rows_within = rw are.first_rows (firsts_within (same_slot key.slots) (length key.slots))
+
+    pub rows_listed : All (AreRows (frame_height frame)) lists
+    rows_listed = rw (are.row_lists, ← key_long) (lists_rows (same_slot key.slots) (length key.slots))
+
+    pub groups_few : frame_height frame < 2 ^ 32 → length lists < 2 ^ 32
+    groups_few short = omega (arith, ap (λ (xs : List (List ℕ)). length xs) are.row_lists, lists_few (same_slot key.slots) (length key.slots), key_long, short)
+
+    as_many : length rows ≡ length lists
+    as_many =
+        let pairs = groups (same_slot key.slots) (rows_below (length key.slots)) in
+        ap (λ (xs : List ℕ). length xs) are.first_rows ∙ length-map pairs (λ (p : ℕ × List ℕ). p.0)
+        ∙ sym (length-map pairs (λ (p : ℕ × List ℕ). p.1)) ∙ ap (λ (xs : List (List ℕ)). length xs) (sym are.row_lists)
+
+    module _ (columns : Frame) (columns_are : map content columns ≡ key_part key rows ∷ map (λ agg. aggregated agg (find_column frame agg.0) lists) aggs) where
+      -- what the columns are refused for is the fault of the grouping
+      pub fault_of_columns : frame_height frame < 2 ^ 32 → missing_fault frame aggs ≡ None → unfit_fault frame aggs ≡ None → fault frame (key ∷ []) aggs ≡ frame_fault columns
+      fault_of_columns short there fit = fault_named short there fit ∙ sym (parts_fault frame key rows lists as_many aggs columns columns_are)
+
+      -- the text of the columns is that of the answer
+      pub answered : fault frame (key ∷ []) aggs ≡ None → (null_word : List ℕ) → outcome_by_keys frame aggs null_word (find_columns frame (name ∷ [])) ≡ Report (frame_text (map content columns) null_word)
+      answered none null_word =
+          let agree = same_slot key.slots in
+          let below = rows_below (length key.slots) in
+          reported frame aggs null_word name key found none
+          ∙ ap (λ cs. Report (frame_text cs null_word)) (answer_one frame key key_high aggs
+          ∙ ap (λ rows. key_part key rows ∷ map (λ agg. aggregated agg (find_column frame agg.0) (map (class agree below) (firsts agree below))) aggs) (sym (are.first_rows ∙ groups_firsts agree below))
+          ∙ ap (λ lists. key_part key rows ∷ map (λ agg. aggregated agg (find_column frame agg.0) lists) aggs) (sym (are.row_lists ∙ groups_lists agree below))
+          ∙ sym columns_are)
 
 -- the columns with one aggregate more
 module _ (frame : Frame) (lists : List (List ℕ)) (aggs : List Agg) (i : ℕ) (agg : Agg) (lt : i < length aggs) (read : agg ≡ get_or aggs i agg) where

@@ -1,10 +1,17 @@
--- A record's cells put at the ends of the columns, one column after the other.
+-- Slots put at the ends of columns, and a record's cells, one column after the other.
 use Rattle.std.proofs.Common.{◌≡◌, ℕ, ◌+◌, ◌<◌, ◌≤◌, zero, suc, List, [], ◌∷◌, ◌++◌, length, get_or, set, take, drop, refl, sym, ◌∙◌, ap, append_assoc, add-one, arith, Option, Some, None}
 use Rattle.std.specs.Prelude.{option_map}
-use Rattle.std.proofs.lemmas.List.{append-nil, take_all, drop_all, drop_more, take_more_set, drop-set-lt}
+use Rattle.std.proofs.lemmas.List.{append-nil, length-append, take_all, drop_all, drop_more, take_more_set, drop-set-lt}
 use Rattle.csv.specs.Records.{field_at}
-use Rattle.gb_defs.specs.Column.{ColumnValue, Frame}
+use Rattle.gb_defs.specs.Slot.{Slot}
+use Rattle.gb_defs.specs.ColumnType.{ColumnType}
+use Rattle.gb_defs.specs.Column.{ColumnValue, Frame, plain_column}
+use Rattle.gb_cols.specs.Column.{pushed}
 use Rattle.gb_tool.specs.Table.{both_onto, column_with, columns_with}
+
+-- a push to a column in one chunk
+pub pushed_plain : (name : List ℕ) (t : ColumnType) (slots : List Slot) (slot : Slot) → pushed (plain_column name t slots) slot ≡ plain_column name t (slots ++ slot ∷ [])
+pushed_plain name t slots slot = rw (length-append slots (slot ∷ []))
 
 no_more : (o : Option ColumnValue) → both_onto o None ≡ None
 no_more None = refl

@@ -6,12 +6,12 @@ use Rattle.std.specs.Str.{bytes_eq, is_utf8}
 use Rattle.std.proofs.lemmas.Bool.{cases_Bool, eqb-true, eqb-false, eq-eqb}
 use Rattle.std.proofs.lemmas.List.{map-append, length-append, length-map}
 use Rattle.gb_defs.specs.Slot.{Slot, slot_at}
-use Rattle.gb_defs.specs.ColumnType.{ColumnType}
 use Rattle.gb_defs.specs.Column.{ColumnValue, Frame, plain_column, names_of, frame_height, all_have_length, repeated_after}
 use Rattle.gb_defs.specs.Cell.{cell_slot, is_read}
 use Rattle.gb_defs.specs.Table.{TableFault, Head, onto, cell_onto, cells_from, record_slots, row_onto, rows_from, slots_of_column, columns_from, head_of, heads_from}
 use Rattle.gb_cols.specs.Column.{pushed}
 use Rattle.gb_tool.specs.Table.{both_onto, columns_with}
+use Rattle.gb_tool.proofs.PushLemmas.{pushed_plain}
 
 -- ---- parts of options
 
@@ -103,9 +103,6 @@ rows_length null_word heads (row ∷ rows) all e =
     ap length p.4 ∙ ap suc (rows_length null_word heads rows p.1 p.3)
 
 -- ---- one record more in the columns
-
-pushed_plain : (name : List ℕ) (t : ColumnType) (slots : List Slot) (slot : Slot) → pushed (plain_column name t slots) slot ≡ plain_column name t (slots ++ slot ∷ [])
-pushed_plain name t slots slot = rw (length-append slots (slot ∷ []))
 
 slot_after : (pre slots : List Slot) (slot : Slot) (k : ℕ) → length pre ≡ k → slot_at (pre ++ slot ∷ slots) k ≡ slot
 slot_after [] slots slot zero e = refl

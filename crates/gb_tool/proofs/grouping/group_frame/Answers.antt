@@ -1,16 +1,14 @@
-use Rattle.std.proofs.Common.{◌≡◌, ◌<◌, ◌∙◌, ap, sym, subst, List, ℕ, map, length, arith}
+use Rattle.std.proofs.Common.{◌≡◌, ◌<◌, ◌∙◌, ap, sym, subst, ℕ, map, arith}
 use Rattle.std.proofs.lemmas.List.{length-map}
 use Rattle.std.proofs.lemmas.Simd.{map-map}
 use Rattle.std.proofs.lemmas.Result.{err_from_is_err_and, IfOk-weaker, IfErr-weaker}
 use Rattle.smallvec.specs.SmallVec.{SmallVec}
 use Rattle.gb_defs.specs.Column.{content}
-use Rattle.gb_defs.specs.Classes.{groups, rows_below, same_slot}
 use Rattle.gb_cols.specs.PlSmallStr.{text_of}
 use Rattle.gb_cols.specs.PolarsError.{cause_of}
-use Rattle.gb_groups.specs.Groups.{lists_of}
 use Rattle.gb_series.specs.Series.{value_of}
 use Rattle.gb_tool.specs.Request.{aggs_of}
-use Rattle.gb_tool.proofs.GroupingLemmas.{answered, fault_named, firsts_within, key_long, lists_few, lists_rows, parts_fault, refused, refused_height, refused_missing, refused_unfit}
+use Rattle.gb_tool.proofs.GroupingLemmas.{answered, are_groups, fault_of_columns, groups_few, key_long, refused, refused_height, refused_missing, refused_unfit, rows_listed, rows_within}
 use Rattle.gb_tool.proofs.grouping.group_frame.Goals as goal
 
 pub returns-in_err-check_height-clause-err : goal.returns-in_err-check_height-clause-err
@@ -35,28 +33,33 @@ group_tuples-requires-clause-few g c =
 
 pub answer_columns-requires-clause-firsts : goal.answer_columns-requires-clause-firsts
 answer_columns-requires-clause-firsts g c =
+    let frame = c.args.frame.now in
+    let name = text_of c.args.by.now in
+    let aggs = aggs_of c.args.aggs.now in
     let key = value_of c.in_ok-key.key.now in
-    let pairs = ap (λ g. g.pairs) (c.unwrap_idx-groups.ensures ∙ c.in_ok-groups.ensures.ok) in
-    let rows_are = c.first.ensures ∙ ap (map (λ (p : ℕ × List ℕ). p.0)) pairs in
-    rw rows_are (firsts_within (same_slot key.slots) (length key.slots))
+    let found = rw c.as_str.ensures at c.in_ok-key.ensures.ok in
+    let are = are_groups key _ _ _ (ap (λ g. g.pairs) (c.unwrap_idx-groups.ensures ∙ c.in_ok-groups.ensures.ok)) c.first.ensures c.all.ensures in
+    rows_within frame name key found c.check_height.ensures.frame aggs _ _ are
 
 pub answer_columns-requires-clause-rows : goal.answer_columns-requires-clause-rows
 answer_columns-requires-clause-rows g c =
+    let frame = c.args.frame.now in
+    let name = text_of c.args.by.now in
+    let aggs = aggs_of c.args.aggs.now in
     let key = value_of c.in_ok-key.key.now in
     let found = rw c.as_str.ensures at c.in_ok-key.ensures.ok in
-    let long = key_long c.args.frame.now (text_of c.args.by.now) key found c.check_height.ensures.frame (aggs_of c.args.aggs.now) in
-    let pairs = ap (λ g. g.pairs) (c.unwrap_idx-groups.ensures ∙ c.in_ok-groups.ensures.ok) in
-    let lists_are = c.all.ensures ∙ ap (map (λ (p : ℕ × List ℕ). p.1)) pairs in
-    rw (lists_are, ← long) (lists_rows (same_slot key.slots) (length key.slots))
+    let are = are_groups key _ _ _ (ap (λ g. g.pairs) (c.unwrap_idx-groups.ensures ∙ c.in_ok-groups.ensures.ok)) c.first.ensures c.all.ensures in
+    rows_listed frame name key found c.check_height.ensures.frame aggs _ _ are
 
 pub answer_columns-requires-clause-few : goal.answer_columns-requires-clause-few
 answer_columns-requires-clause-few g c =
+    let frame = c.args.frame.now in
+    let name = text_of c.args.by.now in
+    let aggs = aggs_of c.args.aggs.now in
     let key = value_of c.in_ok-key.key.now in
     let found = rw c.as_str.ensures at c.in_ok-key.ensures.ok in
-    let long = key_long c.args.frame.now (text_of c.args.by.now) key found c.check_height.ensures.frame (aggs_of c.args.aggs.now) in
-    let pairs = ap (λ g. g.pairs) (c.unwrap_idx-groups.ensures ∙ c.in_ok-groups.ensures.ok) in
-    let lists_are = c.all.ensures ∙ ap (map (λ (p : ℕ × List ℕ). p.1)) pairs in
-    omega (arith, length-map c.all.result.now (λ (v : SmallVec ℕ). v.items), ap (λ (xs : List (List ℕ)). length xs) lists_are, lists_few (same_slot key.slots) (length key.slots), long, c.in_ok-check_height.ensures.ok)
+    let are = are_groups key _ _ _ (ap (λ g. g.pairs) (c.unwrap_idx-groups.ensures ∙ c.in_ok-groups.ensures.ok)) c.first.ensures c.all.ensures in
+    omega (arith, length-map c.all.result.now (λ (v : SmallVec ℕ). v.items), groups_few frame name key found c.check_height.ensures.frame aggs _ _ are c.in_ok-check_height.ensures.ok)
 
 pub returns-in_err-columns-clause-err : goal.returns-in_err-columns-clause-err
 returns-in_err-columns-clause-err g c =
@@ -72,19 +75,11 @@ returns-clause-ok g c =
     let aggs = aggs_of c.args.aggs.now in
     let key = value_of c.in_ok-key.key.now in
     let found = rw c.as_str.ensures at c.in_ok-key.ensures.ok in
-    let pairs = ap (λ g. g.pairs) (c.unwrap_idx-groups.ensures ∙ c.in_ok-groups.ensures.ok) in
-    let rows_are = c.first.ensures ∙ ap (map (λ (p : ℕ × List ℕ). p.0)) pairs in
-    let lists_are = c.all.ensures ∙ ap (map (λ (p : ℕ × List ℕ). p.1)) pairs in
-    let same : length c.first.result.now ≡ length (lists_of c.all.result.now) =
-    ap (λ (xs : List ℕ). length xs) rows_are ∙ length-map (groups (same_slot key.slots) (rows_below (length key.slots))) (λ (p : ℕ × List ℕ). p.0)
-    ∙ sym (length-map (groups (same_slot key.slots) (rows_below (length key.slots))) (λ (p : ℕ × List ℕ). p.1)) ∙ ap (λ (xs : List (List ℕ)). length xs) (sym lists_are) in
+    let are = are_groups key _ _ _ (ap (λ g. g.pairs) (c.unwrap_idx-groups.ensures ∙ c.in_ok-groups.ensures.ok)) c.first.ensures c.all.ensures in
     let columns = map value_of c.in_ok-columns.columns.items in
     let columns_are = map-map content value_of c.in_ok-columns.columns.items ∙ c.in_ok-columns.ensures.ok in
-    let named = fault_named frame name key found c.check_height.ensures.frame aggs c.in_ok-check_height.ensures.ok c.in_ok-check_columns.ensures.ok c.in_ok-columns.ensures.fits in
-    IfOk-weaker c.new.result _ _ (λ answer h null_word.
-    rw h.0 (answered frame name key found c.check_height.ensures.frame aggs c.first.result.now (lists_of c.all.result.now) columns rows_are lists_are columns_are
-    (named ∙ sym (parts_fault frame key c.first.result.now (lists_of c.all.result.now) same aggs columns columns_are) ∙ h.1) null_word))
-    c.new.ensures.ok
+    let of_columns = fault_of_columns frame name key found c.check_height.ensures.frame aggs _ _ are columns columns_are c.in_ok-check_height.ensures.ok c.in_ok-check_columns.ensures.ok c.in_ok-columns.ensures.fits in
+    IfOk-weaker c.new.result _ _ (λ answer h null_word. rw h.0 (answered frame name key found c.check_height.ensures.frame aggs _ _ are columns columns_are (of_columns ∙ h.1) null_word)) c.new.ensures.ok
 
 pub returns-clause-err : goal.returns-clause-err
 returns-clause-err g c =
@@ -93,14 +88,8 @@ returns-clause-err g c =
     let aggs = aggs_of c.args.aggs.now in
     let key = value_of c.in_ok-key.key.now in
     let found = rw c.as_str.ensures at c.in_ok-key.ensures.ok in
-    let pairs = ap (λ g. g.pairs) (c.unwrap_idx-groups.ensures ∙ c.in_ok-groups.ensures.ok) in
-    let rows_are = c.first.ensures ∙ ap (map (λ (p : ℕ × List ℕ). p.0)) pairs in
-    let lists_are = c.all.ensures ∙ ap (map (λ (p : ℕ × List ℕ). p.1)) pairs in
-    let same : length c.first.result.now ≡ length (lists_of c.all.result.now) =
-    ap (λ (xs : List ℕ). length xs) rows_are ∙ length-map (groups (same_slot key.slots) (rows_below (length key.slots))) (λ (p : ℕ × List ℕ). p.0)
-    ∙ sym (length-map (groups (same_slot key.slots) (rows_below (length key.slots))) (λ (p : ℕ × List ℕ). p.1)) ∙ ap (λ (xs : List (List ℕ)). length xs) (sym lists_are) in
+    let are = are_groups key _ _ _ (ap (λ g. g.pairs) (c.unwrap_idx-groups.ensures ∙ c.in_ok-groups.ensures.ok)) c.first.ensures c.all.ensures in
     let columns = map value_of c.in_ok-columns.columns.items in
     let columns_are = map-map content value_of c.in_ok-columns.columns.items ∙ c.in_ok-columns.ensures.ok in
-    let named = fault_named frame name key found c.check_height.ensures.frame aggs c.in_ok-check_height.ensures.ok c.in_ok-check_columns.ensures.ok c.in_ok-columns.ensures.fits in
-    let same_fault = named ∙ sym (parts_fault frame key c.first.result.now (lists_of c.all.result.now) same aggs columns columns_are) in
-    IfErr-weaker c.new.result _ _ (λ e h. refused frame name key found c.check_height.ensures.frame aggs (cause_of e) (rw same_fault h)) c.new.ensures.err
+    let of_columns = fault_of_columns frame name key found c.check_height.ensures.frame aggs _ _ are columns columns_are c.in_ok-check_height.ensures.ok c.in_ok-check_columns.ensures.ok c.in_ok-columns.ensures.fits in
+    IfErr-weaker c.new.result _ _ (λ e h. refused frame name key found c.check_height.ensures.frame aggs (cause_of e) (rw of_columns h)) c.new.ensures.err
