@@ -10,6 +10,7 @@ pub struct Pool {
     row_threshold: usize,
     piece_rows: usize,
     seed: u64,
+    ghost fits: { FitsPool workers partitions row_threshold piece_rows },
 }
 
 impl Pool {
@@ -51,13 +52,17 @@ impl Pool {
     }
 
     pub fn workers(&self) -> usize
-        ensures { result ≡ workers_of self.now }
+        ensures value { result ≡ workers_of self.now }
+        ensures some { 1 ≤ result }
+        ensures few { result ≤ 64 }
     {
         self.workers
     }
 
     pub fn partitions(&self) -> usize
-        ensures { result ≡ partitions_of self.now }
+        ensures value { result ≡ partitions_of self.now }
+        ensures some { 1 ≤ result }
+        ensures few { result ≤ 1024 }
     {
         self.partitions
     }
