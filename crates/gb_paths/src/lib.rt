@@ -5,7 +5,7 @@
 pub mod group_by;
 pub mod into_groups;
 mod partitions;
-pub mod path;
+mod path;
 mod row_groups;
 mod row_hashes;
 mod row_lists;

@@ -1,13 +1,11 @@
 //! The choice between one table and a table for each partition.
 
-ghost use Rattle.std.specs.Prelude.{◌≡◌, length};
+ghost use Rattle.std.specs.Prelude.{◌≡◌};
 ghost use Rattle.gb_defs.specs.Path.{is_bytes, path_of};
 ghost use Rattle.gb_cols.specs.Pool.{threshold_of, workers_of};
-ghost use Rattle.gb_series.specs.Series.{value_of};
-ghost use Rattle.gb_paths.specs.Tuples.{column_path, path_value};
+ghost use Rattle.gb_paths.specs.Tuples.{path_value};
 
 use gb_cols::pool::Pool;
-use gb_series::series::Series;
 
 /// Which way rows are grouped.
 #[derive(Clone, Copy, Debug, PartialEq, Eq)]
@@ -18,20 +16,9 @@ pub enum Path {
     Threaded,
 }
 
-/// The path of a key.
-pub fn plan_path(key: &Series, multithreaded: bool, pool: &Pool) -> Path
-    ensures { path_value result ≡ column_path (value_of key.now) multithreaded pool.now }
-{
-    match key {
-        Series::UInt32(column) => choose_path(false, column.len(), multithreaded, pool),
-        Series::Int64(column) => choose_path(false, column.len(), multithreaded, pool),
-        Series::String(column) => choose_path(true, column.len(), multithreaded, pool),
-    }
-}
-
 /// The path of so many keys of bytes, or of numbers: to start threads pays at many rows, or where keys
 /// are long.
-pub(crate) fn choose_path(by_bytes: bool, rows: usize, multithreaded: bool, pool: &Pool) -> Path
+pub fn choose_path(by_bytes: bool, rows: usize, multithreaded: bool, pool: &Pool) -> Path
     ensures { (dtype : _) → is_bytes dtype ≡ by_bytes → path_value result ≡ path_of dtype multithreaded (workers_of pool.now) (threshold_of pool.now) rows }
 {
     if multithreaded && pool.workers() > 1 && (by_bytes || rows > pool.row_threshold()) {
