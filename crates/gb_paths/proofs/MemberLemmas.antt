@@ -1,9 +1,9 @@
 -- Rows that ascend: all rows, those that pass a test, and one more at their end.
-use Rattle.std.proofs.Common.{◌≡◌, ℕ, zero, suc, ◌+◌, ◌<◌, ◌≤◌, Bool, List, [], ◌∷◌, ◌++◌, length, get_or, map, filter, take, All, refl, sym, ◌∙◌, ap, arith, eqb, inl, inr, zero-add}
+use Rattle.std.proofs.Common.{◌≡◌, ℕ, zero, suc, ◌+◌, ◌<◌, ◌≤◌, Bool, List, [], ◌∷◌, ◌++◌, length, get_or, map, filter, take, drop, All, refl, sym, ◌∙◌, ap, arith, eqb, inl, inr, zero-add}
 use Rattle.std.specs.List.{range_with_len, AllByRecursion}
 use Rattle.std.specs.List.Sorted.{IsNonDecreasing, IsStrictlyIncreasing}
-use Rattle.std.proofs.lemmas.List.{get_or-map, length-map}
-use Rattle.std.proofs.lemmas.List.Elements.{All-filter, All-map, All-from_recursion, recursion_from_All}
+use Rattle.std.proofs.lemmas.List.{drop-map, get_or-map, length-map}
+use Rattle.std.proofs.lemmas.List.Elements.{All-drop, All-filter, All-map, All-take, All-from_recursion, recursion_from_All}
 use Rattle.std.proofs.lemmas.Bool.{cases_Bool}
 use Rattle.std.proofs.lemmas.List.FromFn.{get_or-range_with_len, length-range_with_len}
 use Rattle.std.proofs.lemmas.List.Kept.{AllPairs-from_increasing, IsStrictlyIncreasing-filter}
@@ -12,7 +12,7 @@ use Rattle.gb_defs.specs.Hash.{partition_of}
 use Rattle.gb_defs.specs.Partitions.{in_partition}
 use Rattle.gb_defs.proofs.ClassesLemmas.{rows_below_all}
 use Rattle.gb_paths.specs.Numbers.{AreMembers, lists_by, rows_of}
-use Rattle.gb_paths.specs.Partitions.{AreWithin}
+use Rattle.gb_paths.specs.Partitions.{AreListed, AreWithin}
 use Rattle.smallvec.specs.SmallVec.{SmallVec}
 use Rattle.gb_groups.specs.Groups.{lists_of}
 use Rattle.gb_paths.proofs.NumberLemmas.{map_range_same, rows_by}
@@ -138,3 +138,25 @@ pub hash_of_row : (hash : ℕ → ℕ) (count : ℕ) (hashes : List ℕ) (row : 
 hash_of_row hash count hashes row hashed lt =
     let inside : row < length (rows_below count) = omega (arith, length-range_with_len 0 count, lt) in
     ap (λ hs. get_or hs row 0) hashed ∙ get_or-map hash (rows_below count) row 0 0 inside ∙ ap hash (get_or-range_with_len 0 count row 0 lt ∙ zero-add row)
+
+-- ---- the front and the back of some lists
+
+take_lists : (n : ℕ) (lists : List (SmallVec ℕ)) → lists_of (take n lists) ≡ take n (lists_of lists)
+take_lists zero lists = refl
+take_lists (suc n) [] = refl
+take_lists (suc n) (list ∷ lists) = ap (λ ls. list.items ∷ ls) (take_lists n lists)
+
+module _ {count : ℕ} {row_hash : ℕ → ℕ} {hashes : List ℕ} (lists : List (SmallVec ℕ)) (listed : AreListed count row_hash hashes (lists_of lists)) (n : ℕ) where
+  pub listed_front : (front : List (SmallVec ℕ)) → front ≡ take n lists → AreListed count row_hash hashes (lists_of front)
+  listed_front front is = record {
+    few = listed.few;
+    members = rw (is, take_lists n lists) (All-take (AreMembers count) n (lists_of lists) listed.members);
+    hashed = listed.hashed;
+  }
+
+  pub listed_back : (back : List (SmallVec ℕ)) → back ≡ drop n lists → AreListed count row_hash hashes (lists_of back)
+  listed_back back is = record {
+    few = listed.few;
+    members = rw (is, ← drop-map (λ (list : SmallVec ℕ). list.items) n lists) (All-drop (AreMembers count) n (lists_of lists) listed.members);
+    hashed = listed.hashed;
+  }

@@ -9,9 +9,11 @@ ghost use Rattle.gb_defs.specs.Slot.{slot_at};
 ghost use Rattle.gb_defs.specs.Groups.{Idx};
 ghost use Rattle.gb_defs.specs.Partitions.{threaded_groups};
 ghost use Rattle.gb_cols.specs.PlSmallStr.{IsNoMemory};
+ghost use Rattle.gb_flat.specs.Shares.{DealsOut};
 ghost use Rattle.gb_groups.specs.Groups.{lists_of, pairs_of};
 ghost use Rattle.gb_groups.specs.GroupsType.{groups_of};
 ghost use Rattle.gb_paths.specs.Numbers.{AreMembers, same_slot_at};
+ghost use Rattle.gb_paths.specs.Partitions.{AreListed, groups_of_parts};
 ghost use Rattle.gb_paths.specs.Tuples.{number_slots};
 
 use crate::partitions::partition_rows;
@@ -20,6 +22,7 @@ use crate::row_hashes::hash_rows;
 use gb_cols::device::Gate;
 use gb_cols::error::PolarsResult;
 use gb_cols::pool::Pool;
+use gb_flat::offsets::split_offsets;
 use gb_groups::groups_idx::{GroupsIdx, IdxItem, IdxVec};
 use gb_groups::groups_type::GroupsType;
 use gb_hash::dirty_hash::DirtyHash;
@@ -31,7 +34,7 @@ use std::alloc::Global;
 use std::hash::Hash;
 use std::marker::Brand;
 use std::sync::ledger::{Blank, Ledger};
-use std::thread::Threads;
+use std::thread::{Threads, join};
 
 /// The rows that hold one key, by the partition of their hash and then by first row; where `sorted`, by
 /// first row and flagged. Each partition enters the gate with its number, and leaves it.
@@ -52,7 +55,7 @@ pub fn group_by_threaded_iter<T: Threads + Sync, R: KeyRows, G: Gate + Sync>(
 {
     let hashes = hash_rows(alloc, rows)?;
     let members = partition_rows(alloc, hashes.as_slice(), n_partitions)?;
-    let parts = group_partitions(alloc, rows, members.as_slice(), hashes.as_slice(), 0, gate)?;
+    let parts = deal_partitions(rt, alloc, rows, &members, &hashes, pool, gate)?;
     let mut groups = GroupsIdx::from_parts(alloc, parts, pool)?;
     if sorted {
         groups.sort()?;
@@ -86,6 +89,103 @@ pub fn group_by_threaded_slice<
     group_by_threaded_iter(rt, alloc, &rows, n_partitions, sorted, pool, gate)
 }
 
+// The groups of each partition, in order. Each worker has some partitions that follow each other, and
+// with one worker no thread is started.
+fn deal_partitions<T: Threads + Sync, R: KeyRows, G: Gate + Sync>(
+    rt: &T,
+    alloc: Global,
+    rows: &R,
+    members: &[IdxVec],
+    hashes: &[u64],
+    pool: &Pool,
+    gate: &G,
+) -> PolarsResult<Vec<Vec<IdxItem>>>
+    requires row_type { IsSync T.row }
+    requires listed { AreListed (R.row_count rows.now) (R.row_hash rows.now) hashes.now (lists_of members.now) }
+    ensures ok { IfOk result (λ parts. groups_of_parts parts.items ≡ map (groups (same_slot_at (R.slot rows.now))) (lists_of members.now)) }
+    ensures err { IfErr result IsNoMemory }
+{
+    let workers = pool.workers().min(members.len());
+    if workers < 2 {
+        return group_partitions(alloc, rows, members, hashes, 0, gate);
+    }
+    let shares = split_offsets(alloc, members.len(), workers)?;
+    group_shares(rt, alloc, rows, members, hashes, 0, &shares, gate)
+}
+
+// The same, each share of the partitions but the last in a thread of its own.
+#[cycle(shares)]
+fn group_shares<T: Threads + Sync, R: KeyRows, G: Gate + Sync>(
+    rt: &T,
+    alloc: Global,
+    rows: &R,
+    members: &[IdxVec],
+    hashes: &[u64],
+    start: usize,
+    shares: &[(usize, usize)],
+    gate: &G,
+) -> PolarsResult<Vec<Vec<IdxItem>>>
+    requires row_type { IsSync T.row }
+    requires listed { AreListed (R.row_count rows.now) (R.row_hash rows.now) hashes.now (lists_of members.now) }
+    requires dealt { DealsOut shares.now (length members.now) }
+    ensures ok { IfOk result (λ parts. groups_of_parts parts.items ≡ map (groups (same_slot_at (R.slot rows.now))) (lists_of members.now)) }
+    ensures err { IfErr result IsNoMemory }
+{
+    let Some((share, later)) = shares.split_first() else {
+        return group_partitions(alloc, rows, members, hashes, start, gate);
+    };
+    if later.is_empty() {
+        return group_partitions(alloc, rows, members, hashes, start, gate);
+    }
+    let (mine, others) = members.split_at(share.1);
+    let next = start.wrapping_add(share.1);
+    let (parts, rest) = group_both(
+        rt, alloc, rows, mine, others, hashes, start, next, later, gate,
+    );
+    let mut parts = parts?;
+    parts.append(&mut rest?)?;
+    Ok(parts)
+}
+
+// One share, and the later ones in another thread.
+#[cycle(shares)]
+fn group_both<T: Threads + Sync, R: KeyRows, G: Gate + Sync>(
+    rt: &T,
+    alloc: Global,
+    rows: &R,
+    mine: &[IdxVec],
+    others: &[IdxVec],
+    hashes: &[u64],
+    start: usize,
+    next: usize,
+    later: &[(usize, usize)],
+    gate: &G,
+) -> (
+    PolarsResult<Vec<Vec<IdxItem>>>,
+    PolarsResult<Vec<Vec<IdxItem>>>,
+)
+    requires row_type { IsSync T.row }
+    requires mine { AreListed (R.row_count rows.now) (R.row_hash rows.now) hashes.now (lists_of mine.now) }
+    requires others { AreListed (R.row_count rows.now) (R.row_hash rows.now) hashes.now (lists_of others.now) }
+    requires dealt { DealsOut later.now (length others.now) }
+    ensures mine { IfOk result.0 (λ parts. groups_of_parts parts.items ≡ map (groups (same_slot_at (R.slot rows.now))) (lists_of mine.now)) }
+    ensures others { IfOk result.1 (λ parts. groups_of_parts parts.items ≡ map (groups (same_slot_at (R.slot rows.now))) (lists_of others.now)) }
+    ensures mine_err { IfErr result.0 IsNoMemory }
+    ensures others_err { IfErr result.1 IsNoMemory }
+{
+    join(
+        rt,
+        ||
+            requires { AreListed (R.row_count rows.now) (R.row_hash rows.now) hashes.now (lists_of mine.now) }
+            ensures { IfOk result (λ parts. groups_of_parts parts.items ≡ map (groups (same_slot_at (R.slot rows.entry.now))) (lists_of mine.entry.now)) × IfErr result IsNoMemory }
+        { group_partitions(alloc, rows, mine, hashes, start, gate) },
+        ||
+            requires { IsSync T.row × AreListed (R.row_count rows.now) (R.row_hash rows.now) hashes.now (lists_of others.now) × DealsOut later.now (length others.now) }
+            ensures { IfOk result (λ parts. groups_of_parts parts.items ≡ map (groups (same_slot_at (R.slot rows.entry.now))) (lists_of others.entry.now)) × IfErr result IsNoMemory }
+        { group_shares(rt, alloc, rows, others, hashes, next, later, gate) },
+    )
+}
+
 // The groups of each partition, in order; the number of the first is given.
 fn group_partitions<R: KeyRows, G: Gate>(
     alloc: Global,
@@ -95,10 +195,8 @@ fn group_partitions<R: KeyRows, G: Gate>(
     start: usize,
     gate: &G,
 ) -> PolarsResult<Vec<Vec<IdxItem>>>
-    requires few { R.row_count rows.now < 2 ^ 32 }
-    requires members { All (AreMembers (R.row_count rows.now)) (lists_of members.now) }
-    requires hashes { hashes.now ≡ map (R.row_hash rows.now) (rows_below (R.row_count rows.now)) }
-    ensures ok { IfOk result (λ parts. map (λ part. pairs_of part.items) parts.items ≡ map (groups (same_slot_at (R.slot rows.now))) (lists_of members.now)) }
+    requires listed { AreListed (R.row_count rows.now) (R.row_hash rows.now) hashes.now (lists_of members.now) }
+    ensures ok { IfOk result (λ parts. groups_of_parts parts.items ≡ map (groups (same_slot_at (R.slot rows.now))) (lists_of members.now)) }
     ensures err { IfErr result IsNoMemory }
 {
     let mut parts = Vec::with_capacity(alloc, members.len())?;

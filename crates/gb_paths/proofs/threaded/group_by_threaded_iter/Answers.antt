@@ -18,11 +18,15 @@ partition_rows-requires-clause-few g c =
     let long = ap length c.as_slice.ensures.value ∙ ap length c.in_ok-hashes.ensures ∙ length-map (rows_below count) (g.R.KeyRows.row_hash c.args.rows.now) ∙ length-range_with_len 0 count in
     omega (arith, long, c.requires.few)
 
-pub group_partitions-requires-clause-members : goal.group_partitions-requires-clause-members
-group_partitions-requires-clause-members g c κs within =
+pub deal_partitions-requires-clause-listed : goal.deal_partitions-requires-clause-listed
+deal_partitions-requires-clause-listed g c κs within =
     let count = g.R.KeyRows.row_count c.args.rows.now in
     let long = ap length c.as_slice.ensures.value ∙ ap length c.in_ok-hashes.ensures ∙ length-map (rows_below count) (g.R.KeyRows.row_hash c.args.rows.now) ∙ length-range_with_len 0 count in
-    rw (c.as_slice-2.ensures.value, ← long) c.in_ok-members.ensures.members
+    record {
+      few = c.requires.few;
+      members = rw (c.deref.ensures.value, ← long) c.in_ok-members.ensures.members;
+      hashed = c.deref-2.ensures.value ∙ c.in_ok-hashes.ensures;
+    }
 
 pub returns-clause-ok : goal.returns-clause-ok
 returns-clause-ok g c =
@@ -37,7 +41,7 @@ returns-clause-ok g c =
     (g.met.R.KeyRows g.world.𝓛 g.world.𝓜 g.world.𝓡 ((λ s x. x), (λ x. x), (λ x. x), λ x. x)).hashes_alike rows i j low high ((Decides-slot_eq _ _).0 same) in
     let rows_are = rw long at c.in_ok-members.ensures.rows in
     let split = rows_are hash hashed in
-    let all = united agree hash n count (λ part. part.items) c.in_ok-parts.parts.items _ alike c.in_ok-parts.ensures.ok (ap lists_of c.as_slice-2.ensures.value ∙ split) in
+    let all = united agree hash n count (λ part. part.items) c.in_ok-parts.parts.items _ alike c.in_ok-parts.ensures.ok (ap lists_of c.deref.ensures.value ∙ split) in
     let made = c.in_ok-groups.ensures.ok ∙ ap (λ pairs. record { pairs = pairs; form = Idx; flagged = false }) all in
     let within = rows_within n count hash c.as_slice.result.now hashed c.in_ok-members.ensures.within in
     c.from.ensures ∙ elim c.if-sorted.branch [
