@@ -1,11 +1,15 @@
 -- The search for a key in a table of groups.
-use Rattle.std.proofs.Common.{◌≡◌, ◌≢◌, ℕ, ◌+◌, ◌<◌, Bool, true, false, inl, inr, List, [], ◌∷◌, ◌++◌, length, get_or, map, refl, sym, ◌∙◌, ap, subst, arith, IsTrue, slice_index_or}
-use Rattle.std.proofs.lemmas.List.{get_or-map, length-map, map-append}
+use Rattle.std.proofs.Common.{◌≡◌, ◌≢◌, ℕ, ◌+◌, ◌<◌, Bool, true, false, inl, inr, List, [], ◌∷◌, ◌++◌, length, get_or, sym, ◌∙◌, ap, subst, arith, IsTrue, slice_index_or}
+use Rattle.std.proofs.lemmas.List.{get_or-map, get_or_default, length-map, map-append}
 use Rattle.std.proofs.lemmas.Bool.{cases_order, cases_lt, false_from_ne_true, true≢false}
 use Rattle.gb_hash.specs.declared.group_table.Entry.{Entry}
 use Rattle.gb_hash.specs.Table.{held_at, IsReached, IsTable, IsKnown, IsAdded}
 use Rattle.gb_hash.specs.Entry.{hashes_of, pairs_of}
 use Rattle.gb_hash.proofs.TableLemmas.{taken_more, some_free}
+
+-- an entry that was read, at another default
+pub read_entry : {K : Type 0} (entries : List (Entry K)) (number : ℕ) (entry e : Entry K) → number < length entries → entry ≡ get_or entries number entry → get_or entries number e ≡ entry
+read_entry entries number entry e lt read = get_or_default entries number e entry lt ∙ sym read
 
 module _ {K : Type 0} (eq : K → K → Bool) (slots : List ℕ) (entries : List (Entry K)) (hash : ℕ) (key : K) where
   -- the first n slots from the hash on are taken, and not by the key

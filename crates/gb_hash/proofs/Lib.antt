@@ -1,3 +1,4 @@
 pub mod ByteLemmas
 pub mod EntryLemmas
+pub mod NumberedLemmas
 pub mod TableLemmas

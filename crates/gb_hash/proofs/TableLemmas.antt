@@ -26,6 +26,10 @@ next_place at hash n len bits e place =
 pub place_in : (at n len : ℕ) → at ≡ n % len → 0 < len → at < len
 place_in at n len place some = rw place (mod-lt n some)
 
+-- what was read at a place
+pub held_here : (slots : List ℕ) (at place held : ℕ) → at ≡ place % length slots → slice_index slots at ≡ held → held_at slots place ≡ held
+held_here slots at place held e read = ap (slice_index slots) (sym e) ∙ read
+
 -- every place is met from any hash on
 every_place : (c h j : ℕ) → j < c → (d : ℕ) × (d < c) × ((h + d) % c ≡ j)
 every_place c h j lt =

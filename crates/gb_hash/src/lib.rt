@@ -18,4 +18,6 @@ mod row_tests;
 pub mod slice_rows;
 pub mod steps;
 #[cfg(test)]
+mod table_tests;
+#[cfg(test)]
 mod tests;

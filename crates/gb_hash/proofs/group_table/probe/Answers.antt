@@ -1,9 +1,8 @@
-use Rattle.std.proofs.Common.{arith, ◌≡◌, ◌+◌, ◌-◌, ◌<◌, ◌≤◌, length, ap, sym, ◌∙◌, slice_index, slice_index_or}
-use Rattle.std.proofs.lemmas.List.{get_or_default, length-map}
-use Rattle.gb_hash.specs.Table.{held_at}
+use Rattle.std.proofs.Common.{arith, ◌≡◌, ◌+◌, ◌-◌, ◌<◌, ◌≤◌, length, ap, sym, ◌∙◌, slice_index}
+use Rattle.std.proofs.lemmas.List.{length-map}
 use Rattle.gb_hash.specs.Entry.{hashes_of}
-use Rattle.gb_hash.proofs.TableLemmas.{first_place, next_place, place_in}
-use Rattle.gb_hash.proofs.EntryLemmas.{past_none, past_more, absent, not_full}
+use Rattle.gb_hash.proofs.TableLemmas.{first_place, next_place, place_in, held_here}
+use Rattle.gb_hash.proofs.EntryLemmas.{read_entry, past_none, past_more, absent, not_full}
 use Rattle.gb_hash.proofs.group_table.probe.Goals as goal
 use Rattle.gb_hash.proofs.group_table.probe.Goals.{else-entry-hash-via-then-entry-hash+else-eq, else-entry-hash-via-else-entry-hash}
 
@@ -12,7 +11,7 @@ loop-probe-init g c = record { place = first_place c.args.hash _ _ c.requires.ta
 
 pub returns-then-slot-eq0 : goal.returns-then-slot-eq0
 returns-then-slot-eq0 g c =
-    let free : held_at c.args.slots.now (c.args.hash + c.loop-probe._probe) ≡ 0 = ap (slice_index c.args.slots.now) (sym c.loop-probe.invariant.place) ∙ c.if-slot-eq0.true in (
+    let free = held_here c.args.slots.now c.loop-probe.at (c.args.hash + c.loop-probe._probe) 0 c.loop-probe.invariant.place c.if-slot-eq0.true in (
       record {
         distance = c.loop-probe._probe;
         probed = record { near = omega arith; taken = c.loop-probe.invariant.past.taken };
@@ -27,14 +26,14 @@ loop-probe-preserved g c =
     let slots = c.args.slots.now in
     let entries = c.args.entries.now in
     let slot = slice_index slots c.loop-probe.at in
-    let here : held_at slots (c.args.hash + c.loop-probe._probe) ≡ slot - 1 + 1 = ap (slice_index slots) (sym c.loop-probe.invariant.place) ∙ omega arith in
+    let here = held_here slots c.loop-probe.at (c.args.hash + c.loop-probe._probe) (slot - 1 + 1) c.loop-probe.invariant.place (omega arith) in
     let inside : c.loop-probe.at < length slots = place_in _ _ _ c.loop-probe.invariant.place (omega arith) in
     let few : slot ≤ length (hashes_of entries) = c.requires.table.within c.loop-probe.at 0 inside in
     let in_entries : slot - 1 < length entries = omega (arith, few, length-map entries (λ e. e.hash)) in
     record {
       place = next_place _ c.args.hash _ _ _ c.requires.table.size c.loop-probe.invariant.place;
       past = past_more _ _ _ _ _ _ (slot - 1) c.loop-probe.invariant.past here (λ e same.
-          let read = get_or_default entries (slot - 1) e c.index-entries-slot.result in_entries ∙ sym c.index-entries-slot.is in
+          let read = read_entry entries (slot - 1) c.index-entries-slot.result e in_entries c.index-entries-slot.is in
           elim c.else-entry-hash.branch [
             | else-entry-hash-via-then-entry-hash+else-eq w ↦ rw (read, ← w.eq.ensures) w.if-eq.false
             | else-entry-hash-via-else-entry-hash w ↦ absurd (w.if-entry-hash.false (sym (ap (λ x. x.hash) read) ∙ same))

@@ -1,4 +1,4 @@
-use Rattle.std.proofs.Common.{arith, ◌≡◌, ◌+◌, ◌*◌, ◌<◌, ◌++◌, ◌∷◌, [], length, inl, inr, ◌∙◌, sym, ap}
+use Rattle.std.proofs.Common.{arith, inl, inr}
 use Rattle.std.proofs.lemmas.List.{length-map, map-append}
 use Rattle.gb_hash.specs.Entry.{hashes_of}
 use Rattle.gb_hash.proofs.TableLemmas.{roomy_put}
@@ -16,7 +16,7 @@ invariant_of-self-in-Free g c =
     let room = rw c.deref.ensures.value at c.in_ok-make_room.ensures.room in
     let many = length-map entries (λ e. e.hash) in
     rw (c.in_ok-push-in-Free.ensures.items, map-append (λ e. e.hash) entries _)
-        (roomy_put _ (hashes_of entries) c.args.hash _ _ roomy (omega (arith, room, many)) spot.0 (omega (arith, many, c.len-number.ensures)))
+    (roomy_put _ (hashes_of entries) c.args.hash _ _ roomy (omega (arith, room, many)) spot.0 (omega (arith, many, c.len-number.ensures)))
 
 pub returns-in-Known-clause-found : goal.returns-in-Known-clause-found
 returns-in-Known-clause-found g c =
