@@ -59,7 +59,8 @@ impl<K: Copy + Eq> GroupTable<K> {
     }
 
     /// The number of the key's group, a new one where no group has the key. Any hash will do that
-    /// equal keys share. Where hashes differ, the time is constant but for the growth of the table.
+    /// equal keys share. Where the low bits of the hashes are spread, a call takes constant time, on
+    /// average over all calls, since the table grows.
     #[inline]
     pub fn number_of(&mut self, key: K, hash: u64) -> Result<u32, AllocError>
         requires few { length self.old < 2 ^ 32 - 1 }

@@ -16,7 +16,7 @@ invariant_of-self-in-Free g c =
     let room = rw c.deref.ensures.value at c.in_ok-make_room.ensures.room in
     let many = length-map entries (λ e. e.hash) in
     rw (c.in_ok-push-in-Free.ensures.items, map-append (λ e. e.hash) entries _)
-    (roomy_put _ (hashes_of entries) c.args.hash _ _ roomy (omega (arith, room, many)) spot.0 (omega (arith, many, c.len-number.ensures)))
+    (roomy_put c.make_room.new.slots.items (hashes_of entries) c.args.hash c.in-Free.at c.len-number.result roomy (omega (arith, room, many)) spot.0 (omega (arith, many, c.len-number.ensures)))
 
 pub returns-in-Known-clause-found : goal.returns-in-Known-clause-found
 returns-in-Known-clause-found g c =
