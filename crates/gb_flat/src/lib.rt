@@ -1,8 +1,8 @@
 //! Buffers that are laid one after another: where each begins, and their items in one vector.
 #![tactic(auto)]
 
-pub mod flatten;
 mod fill;
+pub mod flatten;
 pub mod nullable;
 pub mod offsets;
 #[cfg(test)]

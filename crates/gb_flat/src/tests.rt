@@ -38,14 +38,15 @@ fn buffers_begin_where_others_end(rt: HostRuntime) -> Result<(), Fail> {
 #[test]
 fn items_stand_in_order(rt: HostRuntime) -> Result<(), Fail> {
     let alloc = rt.alloc();
-    for workers in [1, 2, 3, 4] {
+    for workers in [1, 2, 3, 4, 64] {
         let pool = Pool::new(workers, 1, 1, 1, 0);
         let bufs = buffers(alloc, &[&[1, 2], &[], &[3]])?;
         let flat = flatten_par(&rt, alloc, &bufs, &pool)?;
         assert_eq!(rt; flat.as_slice(), [1, 2, 3].as_slice());
+        let bufs = buffers(alloc, &[&[], &[7], &[8, 9], &[], &[4]])?;
+        let flat = flatten_par(&rt, alloc, &bufs, &pool)?;
+        assert_eq!(rt; flat.as_slice(), [7, 8, 9, 4].as_slice());
         let bufs = buffers(alloc, &[&[], &[]])?;
-        assert!(rt; flatten_par(&rt, alloc, &bufs, &pool)?.is_empty());
-        let bufs = buffers(alloc, &[])?;
         assert!(rt; flatten_par(&rt, alloc, &bufs, &pool)?.is_empty());
     }
     Ok(())

@@ -1,4 +1,4 @@
-use Rattle.std.proofs.Common.{◌≡◌, ◌∙◌, ℕ, ◌<◌, ◌≤◌, List, length, subst, sym, arith}
+use Rattle.std.proofs.Common.{◌∙◌, ℕ, List, length, subst, sym, arith}
 use Rattle.gb_flat.specs.Shares.{DealsOut}
 use Rattle.gb_flat.proofs.FillLemmas.{ranges_deal}
 use Rattle.gb_flat.proofs.flatten.flatten_par.Goals as goal

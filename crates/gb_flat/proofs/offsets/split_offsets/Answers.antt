@@ -1,4 +1,4 @@
-use Rattle.std.proofs.Common.{◌≡◌, ◌∙◌, ◌++◌, ◌∷◌, ◌-◌, ◌+◌, [], ◌*◌, ◌/◌, map, ap, sym, arith}
+use Rattle.std.proofs.Common.{◌≡◌, ◌∙◌, ◌-◌, ◌+◌, map, ap, sym, arith}
 use Rattle.std.specs.List.{range_with_len}
 use Rattle.gb_defs.specs.Flat.{range_at}
 use Rattle.std.proofs.lemmas.Grind.{common_steps}
