@@ -52,10 +52,10 @@ pub record IsCut {X : Type 0} (f : X → ℕ) (base : ℕ) (starts starts' : Lis
   pub total : sum_by f xs ≡ sum_by f mine + sum_by f others
   pub dealt : DealsOut later (length others)
 
-pub is_cut : {X : Type 0} (f : X → ℕ) (base : ℕ) (starts starts' : List ℕ) (xs mine others : List X) (shares later : List (ℕ × ℕ)) (share : ℕ × ℕ)
+pub is_cut : {X : Type 0} {f : X → ℕ} {base : ℕ} {starts starts' : List ℕ} {xs mine others : List X} {shares later : List (ℕ × ℕ)} {share : ℕ × ℕ}
     → shares ≡ share ∷ later → false ≡ (length later == 0) → DealsOut shares (length xs) → starts ≡ starts_from base (map f xs)
     → starts' ≡ drop share.1 starts → mine ≡ take share.1 xs → others ≡ drop share.1 xs → IsCut f base starts starts' xs mine others share later
-is_cut f base starts starts' xs mine others shares later share first not_last deals begin left mine_is others_are =
+is_cut {X} {f} {base} {starts} {starts'} {xs} {mine} {others} {shares} {later} {share} first not_last deals begin left mine_is others_are =
     let some_later : 0 < length later = grind (arith, nat_tests) in
     let inside : share.1 < length xs = share_inside shares later share (length xs) first some_later deals in
     let after : starts' ≡ starts_from (base + sum_by f mine) (map f others) = rw (left, begin, mine_is, others_are) (starts-drop f base xs share.1 (omega arith)) in
