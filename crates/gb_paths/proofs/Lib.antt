@@ -2,3 +2,4 @@ pub mod KeyLemmas
 pub mod MemberLemmas
 pub mod NumberLemmas
 pub mod PartitionLemmas
+pub mod TupleLemmas

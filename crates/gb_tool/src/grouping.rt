@@ -8,7 +8,9 @@ ghost use Rattle.gb_defs.specs.Answer.{aggregated};
 ghost use Rattle.gb_defs.specs.Outcome.{Report, find_columns, outcome_by_keys};
 ghost use Rattle.gb_defs.specs.Text.{frame_text};
 ghost use Rattle.gb_cols.specs.PolarsError.{Explains};
-ghost use Rattle.gb_cols.specs.PlSmallStr.{text_of};
+ghost use Rattle.gb_defs.specs.Classes.{groups, rows_below, same_slot};
+ghost use Rattle.gb_cols.specs.PlSmallStr.{IsNoMemory, text_of};
+ghost use Rattle.gb_groups.specs.GroupsType.{groups_of};
 ghost use Rattle.gb_groups.specs.Groups.{lists_of};
 ghost use Rattle.gb_series.specs.Series.{value_of};
 ghost use Rattle.gb_tool.specs.Folds.{AreRows};
@@ -17,24 +19,27 @@ ghost use Rattle.gb_tool.specs.Request.{agg_of, aggs_of, method_of};
 
 use crate::folds::aggregate;
 use crate::request::Agg;
+use gb_cols::device::Gate;
 use gb_cols::error::{PolarsError, PolarsResult};
 use gb_cols::pool::Pool;
 use gb_cols::small_str::PlSmallStr;
 use gb_groups::groups_idx::IdxVec;
-use gb_paths::into_groups::IntoGroupsType;
+use gb_groups::groups_type::GroupsType;
+use gb_paths::into_groups::group_tuples_gated;
 use gb_series::frame::DataFrame;
 use gb_series::series::Series;
 use std::alloc::Global;
 use std::thread::Threads;
 
 /// The key at the first row of each group, and the aggregates over its rows.
-pub fn group_frame<R: Threads + Sync>(
+pub fn group_frame<R: Threads + Sync, G: Gate + Sync>(
     rt: &R,
     alloc: Global,
     frame: &DataFrame,
     by: &PlSmallStr,
     aggs: &[Agg],
     pool: &Pool,
+    gate: &G,
 ) -> PolarsResult<DataFrame>
     requires row_type { IsSync R.row }
     ensures ok { IfOk result (λ answer. (null_word : List ℕ) → outcome_by_keys frame.now (aggs_of aggs.now) null_word (find_columns frame.now (text_of by.now ∷ [])) ≡ Report (frame_text (map content answer) null_word)) }
@@ -43,10 +48,25 @@ pub fn group_frame<R: Threads + Sync>(
     let key = frame.column(by.as_str())?;
     check_height(frame)?;
     check_columns(frame, aggs)?;
-    let groups = key.group_tuples(rt, false, true, pool)?;
+    let groups = key_groups(rt, key, pool, gate)?;
     let groups = groups.unwrap_idx();
     let columns = answer_columns(alloc, frame, key, aggs, groups.first(), groups.all())?;
     DataFrame::new(columns)
+}
+
+// The rows that hold one key, in the order of their first rows, by as many workers as there are.
+fn key_groups<R: Threads + Sync, G: Gate + Sync>(
+    rt: &R,
+    key: &Series,
+    pool: &Pool,
+    gate: &G,
+) -> PolarsResult<GroupsType>
+    requires row_type { IsSync R.row }
+    requires few { length (value_of key.now).slots < 2 ^ 32 }
+    ensures ok { IfOk result (λ g. (groups_of g).pairs ≡ groups (same_slot (value_of key.now).slots) (rows_below (length (value_of key.now).slots))) }
+    ensures err { IfErr result IsNoMemory }
+{
+    group_tuples_gated(rt, key, true, true, pool, gate)
 }
 
 // That rows have numbers.

@@ -30,14 +30,13 @@ fn pool_of(options: &ToolOptions) -> Pool {
     )
 }
 
-/// The text of the answer to the request over the table's bytes. Today a request has one key, and the
-/// gate is asked for nothing.
+/// The text of the answer to the request over the table's bytes. Today a request has one key.
 pub fn report<R: Threads + Sync, G: Gate + Sync>(
     rt: &R,
     alloc: Global,
     request: &Request,
     bytes: &[u8],
-    _gate: &G,
+    gate: &G,
 ) -> Result<Vec<u8>, Status>
     requires row_type { IsSync R.row }
     requires few { length bytes.now ≤ 4294967295 }
@@ -47,19 +46,20 @@ pub fn report<R: Threads + Sync, G: Gate + Sync>(
 {
     match request {
         Request::Group { by, aggs, options } => {
-            group_report(rt, alloc, &by[0], aggs, options, bytes)
+            group_report(rt, alloc, &by[0], aggs, options, bytes, gate)
         }
     }
 }
 
 // The text of the grouped table.
-fn group_report<R: Threads + Sync>(
+fn group_report<R: Threads + Sync, G: Gate + Sync>(
     rt: &R,
     alloc: Global,
     by: &PlSmallStr,
     aggs: &[Agg],
     options: &ToolOptions,
     bytes: &[u8],
+    gate: &G,
 ) -> Result<Vec<u8>, Status>
     requires row_type { IsSync R.row }
     requires few { length bytes.now ≤ 4294967295 }
@@ -68,6 +68,6 @@ fn group_report<R: Threads + Sync>(
 {
     let null_word = options.null_word.as_str();
     let frame = table_of(alloc, bytes, null_word)?;
-    let answer = group_frame(rt, alloc, &frame, by, aggs, &pool_of(options))?;
+    let answer = group_frame(rt, alloc, &frame, by, aggs, &pool_of(options), gate)?;
     Ok(text::text_of(alloc, &answer, null_word)?)
 }

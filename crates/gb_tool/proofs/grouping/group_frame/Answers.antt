@@ -25,8 +25,8 @@ returns-in_err-check_columns-clause-err g c =
     rw (p.1, p.2) (refused_missing c.args.frame.now (text_of c.args.by.now) (value_of c.in_ok-key.key.now) found c.check_height.ensures.frame (aggs_of c.args.aggs.now)
     c.in_ok-check_height.ensures.ok (cause_of c.in_err-check_columns.field-0.0) c.in_err-check_columns.ensures.err)
 
-pub group_tuples-requires-clause-few : goal.group_tuples-requires-clause-few
-group_tuples-requires-clause-few g c =
+pub key_groups-requires-clause-few : goal.key_groups-requires-clause-few
+key_groups-requires-clause-few g c κs within =
     let found = rw c.as_str.ensures at c.in_ok-key.ensures.ok in
     let long = key_long c.args.frame.now (text_of c.args.by.now) (value_of c.in_ok-key.key.now) found c.check_height.ensures.frame (aggs_of c.args.aggs.now) in
     subst (λ (n : ℕ). n < 4294967296) (sym long) c.in_ok-check_height.ensures.ok
@@ -38,7 +38,7 @@ answer_columns-requires-clause-firsts g c =
     let aggs = aggs_of c.args.aggs.now in
     let key = value_of c.in_ok-key.key.now in
     let found = rw c.as_str.ensures at c.in_ok-key.ensures.ok in
-    let are = are_groups key _ _ _ (ap (λ g. g.pairs) (c.unwrap_idx-groups.ensures ∙ c.in_ok-groups.ensures.ok)) c.first.ensures c.all.ensures in
+    let are = are_groups key _ _ _ (ap (λ g. g.pairs) c.unwrap_idx-groups.ensures ∙ c.in_ok-groups.ensures.ok) c.first.ensures c.all.ensures in
     rows_within frame name key found c.check_height.ensures.frame aggs _ _ are
 
 pub answer_columns-requires-clause-rows : goal.answer_columns-requires-clause-rows
@@ -48,7 +48,7 @@ answer_columns-requires-clause-rows g c =
     let aggs = aggs_of c.args.aggs.now in
     let key = value_of c.in_ok-key.key.now in
     let found = rw c.as_str.ensures at c.in_ok-key.ensures.ok in
-    let are = are_groups key _ _ _ (ap (λ g. g.pairs) (c.unwrap_idx-groups.ensures ∙ c.in_ok-groups.ensures.ok)) c.first.ensures c.all.ensures in
+    let are = are_groups key _ _ _ (ap (λ g. g.pairs) c.unwrap_idx-groups.ensures ∙ c.in_ok-groups.ensures.ok) c.first.ensures c.all.ensures in
     rows_listed frame name key found c.check_height.ensures.frame aggs _ _ are
 
 pub answer_columns-requires-clause-few : goal.answer_columns-requires-clause-few
@@ -58,7 +58,7 @@ answer_columns-requires-clause-few g c =
     let aggs = aggs_of c.args.aggs.now in
     let key = value_of c.in_ok-key.key.now in
     let found = rw c.as_str.ensures at c.in_ok-key.ensures.ok in
-    let are = are_groups key _ _ _ (ap (λ g. g.pairs) (c.unwrap_idx-groups.ensures ∙ c.in_ok-groups.ensures.ok)) c.first.ensures c.all.ensures in
+    let are = are_groups key _ _ _ (ap (λ g. g.pairs) c.unwrap_idx-groups.ensures ∙ c.in_ok-groups.ensures.ok) c.first.ensures c.all.ensures in
     omega (arith, length-map c.all.result.now (λ (v : SmallVec ℕ). v.items), groups_few frame name key found c.check_height.ensures.frame aggs _ _ are c.in_ok-check_height.ensures.ok)
 
 pub returns-in_err-columns-clause-err : goal.returns-in_err-columns-clause-err
@@ -75,7 +75,7 @@ returns-clause-ok g c =
     let aggs = aggs_of c.args.aggs.now in
     let key = value_of c.in_ok-key.key.now in
     let found = rw c.as_str.ensures at c.in_ok-key.ensures.ok in
-    let are = are_groups key _ _ _ (ap (λ g. g.pairs) (c.unwrap_idx-groups.ensures ∙ c.in_ok-groups.ensures.ok)) c.first.ensures c.all.ensures in
+    let are = are_groups key _ _ _ (ap (λ g. g.pairs) c.unwrap_idx-groups.ensures ∙ c.in_ok-groups.ensures.ok) c.first.ensures c.all.ensures in
     let columns = map value_of c.in_ok-columns.columns.items in
     let columns_are = map-map content value_of c.in_ok-columns.columns.items ∙ c.in_ok-columns.ensures.ok in
     let of_columns = fault_of_columns frame name key found c.check_height.ensures.frame aggs _ _ are columns columns_are c.in_ok-check_height.ensures.ok c.in_ok-check_columns.ensures.ok c.in_ok-columns.ensures.fits in
@@ -88,7 +88,7 @@ returns-clause-err g c =
     let aggs = aggs_of c.args.aggs.now in
     let key = value_of c.in_ok-key.key.now in
     let found = rw c.as_str.ensures at c.in_ok-key.ensures.ok in
-    let are = are_groups key _ _ _ (ap (λ g. g.pairs) (c.unwrap_idx-groups.ensures ∙ c.in_ok-groups.ensures.ok)) c.first.ensures c.all.ensures in
+    let are = are_groups key _ _ _ (ap (λ g. g.pairs) c.unwrap_idx-groups.ensures ∙ c.in_ok-groups.ensures.ok) c.first.ensures c.all.ensures in
     let columns = map value_of c.in_ok-columns.columns.items in
     let columns_are = map-map content value_of c.in_ok-columns.columns.items ∙ c.in_ok-columns.ensures.ok in
     let of_columns = fault_of_columns frame name key found c.check_height.ensures.frame aggs _ _ are columns columns_are c.in_ok-check_height.ensures.ok c.in_ok-check_columns.ensures.ok c.in_ok-columns.ensures.fits in
