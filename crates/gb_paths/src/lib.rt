@@ -1,5 +1,6 @@
-//! The paths from a column to the groups of its rows. Each gives the classes of equal slots in the order
-//! of their first rows.
+//! The paths from rows with keys to their groups: by one table, or by a table for each partition of the
+//! hashes, which several workers share. Each gives the classes of equal slots. One table gives them in
+//! the order of their first rows, and partitions in their own order where no other is asked for.
 #![tactic(auto)]
 
 pub mod group_by;
@@ -10,4 +11,6 @@ mod row_groups;
 mod row_hashes;
 mod row_lists;
 mod row_numbers;
+#[cfg(test)]
+mod tests;
 pub mod threaded;

@@ -1,5 +1,5 @@
 use Rattle.std.proofs.Common.{◌≡◌, length}
-use Rattle.gb_paths.proofs.into_groups.tests.column.Given as goal
+use Rattle.gb_paths.proofs.tests.texts.Given as goal
 
 abbrev pub invariant-loop-text : goal.invariant-loop-text
 invariant-loop-text l = length l.column.slots ≡ l.text-index

@@ -1,0 +1,192 @@
+//! Both paths on a few rows, under mixers that bring all keys together or keep them apart.
+
+ghost use Rattle.std.specs.Prelude.{ℕ, ◌≡◌, ◌<◌, ◌^◌, length, IfOk};
+ghost use Rattle.std.specs.Thread.{IsSync};
+
+use crate::group_by::group_uncounted;
+use crate::into_groups::IntoGroupsType;
+use crate::threaded::{group_by_threaded_iter, group_by_threaded_slice};
+use gb_cols::chunked::{Int64Chunked, StringChunked, UInt32Chunked};
+use gb_cols::error::PolarsResult;
+use gb_cols::memory::FreeGate;
+use gb_cols::pool::Pool;
+use gb_cols::small_str::PlSmallStr;
+use gb_groups::groups_type::GroupsType;
+use gb_hash::mixer::{Mixer, SeedMixer};
+use gb_hash::num_rows::NumRows;
+use gb_series::series::Series;
+use std::alloc::Global;
+use std::process::Abort;
+use std::test::Fail;
+use std::thread::Threads;
+
+/// Mixes every word to 0.
+#[derive(Clone, Copy)]
+struct AllAlike;
+
+impl Mixer for AllAlike {
+    ghost seed_of = { λ _. 0 };
+
+    ghost mix_of = { λ _ _. 0 };
+
+    fn seed(&self) -> u64 {
+        0
+    }
+
+    fn mix(&self, _x: u64) -> u64 {
+        0
+    }
+}
+
+/// Leaves every word as it is.
+#[derive(Clone, Copy)]
+struct Unmixed;
+
+impl Mixer for Unmixed {
+    ghost seed_of = { λ _. 0 };
+
+    ghost mix_of = { λ _ x. x };
+
+    fn seed(&self) -> u64 {
+        0
+    }
+
+    fn mix(&self, x: u64) -> u64 {
+        x
+    }
+}
+
+/// A group as a test wants it.
+type Wanted<'a> = (u32, &'a [u32]);
+
+// Whether the groups are these in this order, with this flag.
+fn are(groups: &GroupsType, flagged: bool, wanted: &[Wanted<'_>]) -> bool {
+    if groups.is_sorted_flag() != flagged || groups.len() != wanted.len() {
+        return false;
+    }
+    for ((first, rows), group) in groups.unwrap_idx().iter().zip(wanted.iter()) {
+        if first != group.0 || rows.as_slice() != group.1 {
+            return false;
+        }
+    }
+    true
+}
+
+fn numbers(alloc: Global, values: &[Option<i64>]) -> PolarsResult<Int64Chunked>
+    requires { length values.now < 2 ^ 32 }
+    ensures { IfOk result (λ c. length c.slots ≡ length values.now) }
+{
+    let name = PlSmallStr::from_str(alloc, "key")?;
+    Ok(Int64Chunked::from_slice_options(alloc, name, values)?)
+}
+
+fn texts(alloc: Global, values: &[Option<&str>]) -> PolarsResult<StringChunked>
+    requires { length values.now < 2 ^ 32 }
+    ensures { IfOk result (λ c. length c.slots ≡ length values.now) }
+{
+    let mut column = StringChunked::new(alloc, PlSmallStr::from_str(alloc, "key")?);
+    for text in values {
+        column.push(*text)?;
+    }
+    Ok(column)
+}
+
+// Partitions of rows that all hash alike, and of rows whose hashes are their own bits.
+fn group_in_partitions<T: Abort + Threads + Sync>(
+    rt: &T,
+    alloc: Global,
+    pool: &Pool,
+) -> PolarsResult<()>
+    requires row_type { IsSync T.row }
+{
+    let one_and_two = [1i64, 2, 1];
+    let groups = group_by_threaded_slice(
+        rt,
+        alloc,
+        &one_and_two,
+        AllAlike,
+        4,
+        false,
+        pool,
+        &FreeGate,
+    )?;
+    assert!(rt; are(&groups, false, &[(0, &[0, 2]), (1, &[1])]));
+    let column = numbers(alloc, &[Some(1), None, Some(1)])?;
+    let rows = NumRows::new(&column, AllAlike);
+    let groups = group_by_threaded_iter(rt, alloc, &rows, 4, false, pool, &FreeGate)?;
+    assert!(rt; are(&groups, false, &[(0, &[0, 2]), (1, &[1])]));
+
+    let least_and_zero = [i64::MIN, 0, i64::MIN];
+    let groups = group_by_threaded_slice(
+        rt,
+        alloc,
+        &least_and_zero,
+        Unmixed,
+        2,
+        false,
+        pool,
+        &FreeGate,
+    )?;
+    assert!(rt; are(&groups, false, &[(1, &[1]), (0, &[0, 2])]));
+    let groups = group_by_threaded_slice(
+        rt,
+        alloc,
+        &least_and_zero,
+        Unmixed,
+        2,
+        true,
+        pool,
+        &FreeGate,
+    )?;
+    assert!(rt; are(&groups, true, &[(0, &[0, 2]), (1, &[1])]));
+    let column = numbers(alloc, &[Some(i64::MIN), Some(0), Some(i64::MIN)])?;
+    let rows = NumRows::new(&column, Unmixed);
+    let groups = group_by_threaded_iter(rt, alloc, &rows, 2, false, pool, &FreeGate)?;
+    assert!(rt; are(&groups, false, &[(1, &[1]), (0, &[0, 2])]));
+    let groups = group_by_threaded_iter(rt, alloc, &rows, 2, true, pool, &FreeGate)?;
+    assert!(rt; are(&groups, true, &[(0, &[0, 2]), (1, &[1])]));
+    Ok(())
+}
+
+// The groups of columns, by whatever path.
+fn group_columns<T: Abort + Threads + Sync>(rt: &T, alloc: Global, pool: &Pool) -> PolarsResult<()>
+    requires row_type { IsSync T.row }
+{
+    let none = texts(alloc, &[])?.group_tuples(rt, true, true, pool)?;
+    assert!(rt; are(&none, true, &[]));
+    let column = texts(alloc, &[Some("b"), None, Some("a"), Some("b"), None])?;
+    let groups = column.group_tuples(rt, true, true, pool)?;
+    assert!(rt; are(&groups, true, &[(0, &[0, 3]), (1, &[1, 4]), (2, &[2])]));
+    let groups = column.group_tuples(rt, false, false, pool)?;
+    assert!(rt; are(&groups, false, &[(0, &[0, 3]), (1, &[1, 4]), (2, &[2])]));
+    let column = Series::String(texts(alloc, &[None, Some(""), None])?);
+    let groups = column.group_tuples(rt, true, true, pool)?;
+    assert!(rt; are(&groups, true, &[(0, &[0, 2]), (1, &[1])]));
+    let column = Series::Int64(numbers(alloc, &[Some(-3), None, Some(-3), None])?);
+    let groups = column.group_tuples(rt, true, true, pool)?;
+    assert!(rt; are(&groups, true, &[(0, &[0, 2]), (1, &[1, 3])]));
+    let name = PlSmallStr::from_str(alloc, "key")?;
+    let column = UInt32Chunked::from_slice(alloc, name, &[7, 8, 7])?;
+    let groups = column.group_tuples(rt, true, true, pool)?;
+    assert!(rt; are(&groups, true, &[(0, &[0, 2]), (1, &[1])]));
+    Ok(())
+}
+
+#[test]
+fn rows_with_one_key_are_a_group(rt: HostRuntime) -> Result<(), Fail> {
+    let alloc = rt.alloc();
+    let column = numbers(alloc, &[Some(1), None, Some(1)])?;
+    let rows = NumRows::new(&column, SeedMixer::new(0));
+    let groups = group_uncounted(alloc, &rows, false)?;
+    assert!(rt; are(&groups, false, &[(0, &[0, 2]), (1, &[1])]));
+    let pools = [
+        Pool::new(1, 1, 1, 1, 0),
+        Pool::new(2, 2, 1, 2, 0),
+        Pool::new(4, 7, 3, 2, 9),
+    ];
+    for pool in &pools {
+        group_in_partitions(&rt, alloc, pool)?;
+        group_columns(&rt, alloc, pool)?;
+    }
+    Ok(())
+}
