@@ -1,24 +1,23 @@
 -- What a cell reads as.
-use Rattle.std.proofs.Common.{◌≡◌, ◌==◌, ℕ, ◌^◌, ◌<◌, zero, suc, true, false, not, ◌&&◌, inl, inr, ℤ, pos, negsuc, List, [], ◌∷◌, length, arith, Some, None, Result, Ok, Err}
-use Rattle.std.specs.Prelude.{option_map, FitsSigned}
+use Rattle.std.proofs.Common.{◌≡◌, ◌==◌, ℕ, ◌+◌, ◌*◌, ◌^◌, ◌<◌, ◌≤◌, nat_lt, Bool, true, false, cond, not, ◌&&◌, List, [], ◌∷◌, length, get_or, drop, refl, sym, ◌∙◌, ap, arith, Option, Some, None, Result, Ok, Err}
+use Rattle.std.specs.Prelude.{option_map}
 use Rattle.std.specs.Bool.{Decides}
-use Rattle.std.specs.Int.{Width, w64}
+use Rattle.std.specs.Char.{digit_value}
+use Rattle.std.specs.Int.{w64}
 use Rattle.std.specs.Result.{MatchResult, result_ok}
-use Rattle.std.specs.Str.{IsAscii, IsUtf8, is_utf8, all_ascii_digits, bytes_eq}
-use Rattle.std.specs.Str.Parse.{IsNumeral, ParsesSigned, without_leading_sign, signed_digits_value, digits_value}
-use Rattle.std.proofs.lemmas.Bool.{cases_Bool, eqb-true, ne_eqb, and_parts, and_from, false_from_ne_true, not_from_false}
-use Rattle.std.proofs.lemmas.Bool.Decides.{Decides-ltb}
-use Rattle.std.proofs.lemmas.Fmt.{IsAscii-from_digits}
-use Rattle.std.proofs.lemmas.Str.{IsUtf8-from_ascii, IsUtf8-from_is_utf8, is_utf8-from_IsUtf8}
+use Rattle.std.specs.Str.{IsUtf8, is_utf8, all_ascii_digits, bytes_eq}
+use Rattle.std.specs.Str.Parse.{IsNumeral, digits_value, digits_value_after}
+use Rattle.std.proofs.lemmas.Bool.{le-ltb, lt-ltb, ne_eqb, and_parts, and_from, false_from_ne_true, not_from_false}
+use Rattle.std.proofs.lemmas.List.{drop_more, drop_all}
+use Rattle.std.proofs.lemmas.Str.{IsUtf8-from_is_utf8, is_utf8-from_IsUtf8}
 use Rattle.std.proofs.lemmas.Str.Parse.{IsNumeralModel, numerals_by_value, tells_all_ascii_digits}
-use mir.Val.{hbits}
 use denote.Ref.{Bor}
-use Rattle.gb_defs.specs.Slot.{Nil, Num, Bytes}
+use Rattle.gb_defs.specs.Slot.{Nil, Bytes}
 use Rattle.gb_defs.specs.ColumnType.{int64, text}
 use Rattle.gb_defs.specs.Column.{ColumnValue}
 use Rattle.gb_cols.specs.Column.{pushed}
 use Rattle.gb_tool.specs.Table.{column_with}
-use Rattle.gb_defs.specs.Cell.{is_numeral, fits_signed, signed_value, cell_slot}
+use Rattle.gb_defs.specs.Cell.{is_numeral, signed_value, cell_slot}
 
 pub digits_model : IsNumeralModel (λ ds. all_ascii_digits ds ≡ true) (digits_value 10)
 digits_model = numerals_by_value _ tells_all_ascii_digits
@@ -31,21 +30,33 @@ numeral_tells (d ∷ ds) =
       λ h. and_from (not (length (d ∷ ds) == 0)) (all_ascii_digits (d ∷ ds)) some (digits_model.from (d ∷ ds) h.1),
     )
 
-fits_tells : (w : Width) (n : ℤ) → Decides (fits_signed w n) (FitsSigned w n)
-fits_tells w (pos n) = (λ e. record { sfits = (Decides-ltb n (2 ^ hbits w)).0 e }, λ h. (Decides-ltb n (2 ^ hbits w)).1 h.sfits)
-fits_tells w (negsuc n) = (λ e. record { sfits = (Decides-ltb n (2 ^ hbits w)).0 e }, λ h. (Decides-ltb n (2 ^ hbits w)).1 h.sfits)
+-- ---- digits, from the left
 
--- `parse` gives the number of a cell
-pub parsed_number : {E : Type 0} (w : Width) (bs : List ℕ) (r : Result ℤ E) → ParsesSigned w 10 bs r → option_map (λ n. Num n) (result_ok r) ≡ signed_value w bs
-parsed_number w bs (Ok x) h =
-    let numeral = (numeral_tells (without_leading_sign bs)).1 h.0.0 in
-    let fits = (fits_tells w (signed_digits_value 10 bs)).1 h.0.1 in
-    rw (and_from (is_numeral (without_leading_sign bs)) (fits_signed w (signed_digits_value 10 bs)) numeral fits, h.1)
-parsed_number w bs (Err e) h =
-    let no = false_from_ne_true (is_numeral (without_leading_sign bs) && fits_signed w (signed_digits_value 10 bs))
-    (λ both. let p = and_parts (is_numeral (without_leading_sign bs)) (fits_signed w (signed_digits_value 10 bs)) both in
-    h ((numeral_tells (without_leading_sign bs)).0 p.0, (fits_tells w (signed_digits_value 10 bs)).0 p.1)) in
-    rw no
+-- the number of digits that follow those of n
+abbrev pub magnitude_after : ℕ → List ℕ → Option ℕ
+magnitude_after n ds = cond (all_ascii_digits ds && nat_lt (digits_value_after 10 n ds) (2 ^ 64)) (Some (digits_value_after 10 n ds)) None
+
+grows : (ds : List ℕ) (n : ℕ) → n ≤ digits_value_after 10 n ds
+grows [] n = omega arith
+grows (d ∷ ds) n = omega (arith, grows ds (n * 10 + digit_value d))
+
+not_below : (b : Bool) (n : ℕ) → 2 ^ 64 ≤ n → cond (b && nat_lt n (2 ^ 64)) (Some n) None ≡ None
+not_below true n h = rw (le-ltb n (2 ^ 64) h)
+not_below false n h = refl
+
+module _ (ds : List ℕ) (i n : ℕ) (lt : i < length ds) (so_far : magnitude_after n (drop i ds) ≡ magnitude_after 0 ds) where
+  at_hand : magnitude_after 0 ds ≡ magnitude_after n (get_or ds i 0 ∷ drop (i + 1) ds)
+  at_hand = sym so_far ∙ ap (magnitude_after n) (drop_more ds i 0 lt)
+
+  pub too_large : 2 ^ 64 ≤ n * 10 + digit_value (get_or ds i 0) → None ≡ magnitude_after 0 ds
+  too_large h =
+      let value = n * 10 + digit_value (get_or ds i 0) in
+      sym (at_hand ∙ not_below (all_ascii_digits (get_or ds i 0 ∷ drop (i + 1) ds)) (digits_value_after 10 value (drop (i + 1) ds)) (omega (arith, h, grows (drop (i + 1) ds) value)))
+
+pub digits_end : (ds : List ℕ) (i n : ℕ) → length ds ≤ i → n < 2 ^ 64 → magnitude_after n (drop i ds) ≡ magnitude_after 0 ds → Some n ≡ magnitude_after 0 ds
+digits_end ds i n short fits so_far =
+    let end : magnitude_after n [] ≡ Some n = rw (lt-ltb n (2 ^ 64) fits) in
+    sym end ∙ ap (magnitude_after n) (sym (drop_all i ds short)) ∙ so_far
 
 -- ---- a cell as text
 
@@ -57,31 +68,6 @@ pub its_text : {E : Type 0} (bs : List ℕ) (X : E → Type 0) (r : Result (Bor 
     → (s.now ≡ bs) × IsUtf8 bs
 its_text bs X (Ok t) s h e = let same : t ≡ s = cc in rw same at h
 its_text bs X (Err d) s h e = cc
-
--- ---- a cell that is no text is no number
-
-ascii_after : (b : ℕ) (bs : List ℕ) → b < 128 → IsAscii bs → IsAscii (b ∷ bs)
-ascii_after b bs low h zero = low
-ascii_after b bs low h (suc i) = h i
-
-digits_ascii : (ds : List ℕ) → is_numeral ds ≡ true → IsAscii ds
-digits_ascii ds e = IsAscii-from_digits ds ((numeral_tells ds).0 e).1
-
-numeral_ascii : (bs : List ℕ) → is_numeral (without_leading_sign bs) ≡ true → IsAscii bs
-numeral_ascii [] e = cc
-numeral_ascii (b ∷ bs) e = elim (cases_Bool (b == 45)) [
-  | inl minus ↦ ascii_after b bs (omega (arith, eqb-true b 45 minus)) (digits_ascii bs (rw minus at e))
-  | inr other ↦ elim (cases_Bool (b == 43)) [
-    | inl plus ↦ ascii_after b bs (omega (arith, eqb-true b 43 plus)) (digits_ascii bs (rw (other, plus) at e))
-    | inr digit ↦ digits_ascii (b ∷ bs) (rw (other, digit) at e)
-  ]
-]
-
-pub no_number : (w : Width) (bs : List ℕ) → (IsUtf8 bs → ⊥) → signed_value w bs ≡ None
-no_number w bs h = elim (cases_Bool (is_numeral (without_leading_sign bs))) [
-  | inl e ↦ absurd (h (IsUtf8-from_ascii bs (numeral_ascii bs e)))
-  | inr e ↦ rw e
-]
 
 -- ---- a column with a cell more
 

@@ -1,12 +1,54 @@
-ghost use Rattle.std.specs.Prelude.{◌≡◌, option_map};
+ghost use Rattle.std.specs.Prelude.{◌≡◌, ◌^◌, ◌&&◌, nat_lt, option_map, Some, None, if◌then◌else◌};
 ghost use Rattle.std.specs.Int.{w64};
+ghost use Rattle.std.specs.Str.{all_ascii_digits};
+ghost use Rattle.std.specs.Str.Parse.{digits_value, starts_with_minus, without_leading_sign};
 ghost use Rattle.gb_defs.specs.Slot.{Num};
 ghost use Rattle.gb_defs.specs.Cell.{signed_value};
+
+// Whether a minus stands in front, and what stands behind a sign.
+fn without_sign(cell: &[u8]) -> (bool, &[u8])
+    ensures negative { result.0 ≡ starts_with_minus cell.now }
+    ensures rest { result.1.now ≡ without_leading_sign cell.now }
+{
+    if let Some((first, rest)) = cell.split_first() {
+        if *first == b'-' {
+            return (true, rest);
+        }
+        if *first == b'+' {
+            return (false, rest);
+        }
+    }
+    (false, cell)
+}
+
+// The number that digits write, None where a byte is no digit or 64 bits are too few.
+fn magnitude_of(digits: &[u8]) -> Option<u64>
+    ensures { result ≡ (if all_ascii_digits digits.now && nat_lt (digits_value 10 digits.now) (2 ^ 64) then Some (digits_value 10 digits.now) else None) }
+{
+    let mut value: u64 = 0;
+    for digit in digits {
+        if !digit.is_ascii_digit() {
+            return None;
+        }
+        value = value
+            .checked_mul(10)?
+            .checked_add(u64::from(*digit - b'0'))?;
+    }
+    Some(value)
+}
 
 /// The number that a cell is.
 pub fn number_of(cell: &[u8]) -> Option<i64>
     ensures { option_map (λ n. Num n) result ≡ signed_value w64 cell.now }
 {
-    let text = str::from_utf8(cell).ok()?;
-    text.parse::<i64>().ok()
+    let (negative, digits) = without_sign(cell);
+    if digits.is_empty() {
+        return None;
+    }
+    let magnitude = magnitude_of(digits)?;
+    if negative {
+        0_i64.checked_sub_unsigned(magnitude)
+    } else {
+        0_i64.checked_add_unsigned(magnitude)
+    }
 }
