@@ -1,6 +1,6 @@
 //! The numbers of groups by their keys.
 
-ghost use Rattle.std.specs.Prelude.{◌≡◌, ℕ, ◌+◌, ◌-◌, ◌*◌, ◌^◌, ◌<◌, ◌≤◌, ◌==◌, [], IsTrue, IfOk, OnOk, OnErr, length, count_by, slice_index_or};
+ghost use Rattle.std.specs.Prelude.{◌≡◌, ℕ, ◌-◌, ◌*◌, ◌^◌, ◌<◌, ◌≤◌, ◌==◌, [], IsTrue, IfOk, OnOk, OnErr, length, count_by, slice_index_or};
 ghost use Rattle.gb_hash.specs.Table.{IsTable, IsFreeFor, IsPowerOfTwo, IsRoomy, IsNumbered};
 ghost use Rattle.gb_hash.specs.Entry.{hashes_of, IsSpot};
 

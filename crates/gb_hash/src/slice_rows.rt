@@ -1,6 +1,6 @@
 //! The rows of a slice of numbers.
 
-ghost use Rattle.std.specs.Prelude.{◌≡◌, ℕ, length, map};
+ghost use Rattle.std.specs.Prelude.{◌≡◌, length, map};
 ghost use Rattle.gb_defs.specs.Slot.{slot_at, Num};
 ghost use Rattle.gb_defs.specs.Hash.{hash_of};
 ghost use Rattle.gb_hash.specs.Rows.{keys_decide_by, one_hash};
