@@ -1,21 +1,20 @@
 -- Rows that are numbered by a table of the groups' keys.
-use Rattle.std.proofs.Common.{◌≡◌, ℕ, ◌+◌, ◌<◌, ◌≤◌, Bool, true, false, inl, inr, List, [], ◌∷◌, ◌++◌, length, get_or, map, take, zip, refl, sym, ◌∙◌, ap, arith, IsTrue, All}
+use Rattle.std.proofs.Common.{◌≡◌, ℕ, ◌+◌, ◌<◌, ◌≤◌, Bool, inl, inr, List, [], ◌∷◌, ◌++◌, length, get_or, map, take, zip, refl, sym, ◌∙◌, ap, arith, IsTrue, All}
 use Rattle.std.specs.List.{AllByRecursion}
 use Rattle.std.specs.List.Sorted.{IsNonDecreasing, IsStrictlyIncreasing}
 use Rattle.std.specs.Bool.{Decides}
-use Rattle.std.specs.Cmp.{IsEquivalence, on_equiv}
+use Rattle.std.specs.Cmp.{on_equiv}
 use Rattle.std.proofs.lemmas.List.{get_or-map, get_or-take, get_or_default, length-append, length-map, length-take, map-append, take_more, take_all}
 use Rattle.std.proofs.lemmas.Bool.{cases_order}
 use Rattle.std.proofs.lemmas.List.Elements.{All-filter, All-nil, All-push, All-take, All-weaker, recursion_from_All}
 use Rattle.std.proofs.lemmas.List.Sums.{count_by-le-length, length-filter}
-use Rattle.std.proofs.lemmas.List.FromFn.{length-map-range_with_len}
 use Rattle.std.proofs.lemmas.List.Kept.{AllPairs-from_increasing, IsNonDecreasingBy-filter}
 use Rattle.gb_defs.specs.Classes.{firsts, groups, is_first}
 use Rattle.gb_defs.specs.Slot.{Slot, slot_eq}
 use Rattle.gb_defs.proofs.ClassesLemmas.{IsGrouped, groups_from, grouped_none, grouped_old, grouped_new, place_at, place_none_from}
 use Rattle.gb_defs.proofs.SlotLemmas.{slot_eq_equiv, slot_eq_from_Decides}
 use Rattle.gb_hash.specs.Table.{IsAdded, IsKnown, IsNumbered}
-use Rattle.gb_paths.specs.Numbers.{AreMembers, lists_by, rows_of, same_slot_at}
+use Rattle.gb_paths.specs.Numbers.{AreMembers, lists_by, same_slot_at}
 use Rattle.gb_paths.proofs.NumberLemmas.{lists_old, lists_new}
 
 ascending : (rows : List ℕ) → IsStrictlyIncreasing rows → IsNonDecreasing rows

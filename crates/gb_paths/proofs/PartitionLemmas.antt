@@ -1,12 +1,11 @@
 -- The groups of partitions, united, and in the order of their first rows.
-use Rattle.std.proofs.Common.{◌≡◌, ℕ, ◌<◌, ◌≤◌, Bool, true, false, not, ◌&&◌, List, [], ◌∷◌, ◌++◌, length, get_or, map, filter, All, refl, sym, ◌∙◌, ap, arith, nat_cmp, is_lt, inl, inr}
+use Rattle.std.proofs.Common.{◌≡◌, ℕ, ◌<◌, Bool, true, false, not, ◌&&◌, List, [], ◌∷◌, ◌++◌, length, get_or, map, filter, refl, sym, ◌∙◌, ap, arith, nat_cmp, is_lt, inl, inr}
 use Rattle.std.specs.List.{flat_map, range_with_len, AllByRecursion}
 use Rattle.std.specs.List.Sorted.{IsNonDecreasing, IsNonDecreasingBy}
 use Rattle.std.proofs.lemmas.Bool.{cases_Bool}
 use Rattle.std.proofs.lemmas.Bool.Decides.{nat_tests}
 use Rattle.std.proofs.lemmas.List.{get_or-map, length-map, map-append}
 use Rattle.std.proofs.lemmas.List.Elements.{All-filter, All-from_recursion, recursion_from_All}
-use Rattle.std.proofs.lemmas.List.FromFn.{get_or-range_with_len, length-range_with_len}
 use Rattle.std.proofs.lemmas.List.Sorted.{IsNonDecreasingBy-from_sort}
 use Rattle.smallvec.specs.SmallVec.{SmallVec}
 use Rattle.gb_defs.specs.Classes.{class, firsts, groups, is_first, rows_below}
@@ -18,7 +17,6 @@ use Rattle.gb_defs.proofs.PartitionLemmas.{partitions_united, picked_once}
 use Rattle.gb_groups.specs.Groups.{pairs_of}
 use Rattle.gb_groups.specs.Order.{first_of, IsByFirst}
 use Rattle.gb_groups.proofs.OnceLemmas.{once}
-use Rattle.gb_paths.specs.Partitions.{AreWithin}
 
 -- ---- united
 

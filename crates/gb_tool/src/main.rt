@@ -3,6 +3,8 @@
 #![tactic(auto)]
 
 mod folds;
+#[cfg(test)]
+mod gate_tests;
 mod grouping;
 mod input;
 mod output;

@@ -5,7 +5,7 @@ ghost use Rattle.std.specs.Thread.{IsSync};
 
 use crate::run::{Limits, run};
 use crate::status::Status;
-use gb_cols::device::{Failed, Source};
+use gb_cols::device::{Failed, Gate, Source};
 use gb_cols::error::PolarsError;
 use gb_cols::memory::{FreeGate, MemSink, SoundSource};
 use std::alloc::Global;
@@ -36,11 +36,12 @@ impl Source for FailingSource {
     }
 }
 
-fn source_of(alloc: Global, input: &str) -> Result<SoundSource, Fail> {
+/// A source that tells its bytes.
+pub(crate) fn source_of(alloc: Global, input: &str) -> Result<SoundSource, Fail> {
     Ok(SoundSource::new(Vec::from_slice(alloc, input.as_bytes())?))
 }
 
-// How a run of these words ends.
+// How a run of these words ends, through a gate that holds nothing up.
 fn status_of<R: Threads + Sync, S: Source>(
     rt: &R,
     alloc: Global,
@@ -48,6 +49,22 @@ fn status_of<R: Threads + Sync, S: Source>(
     limit: u64,
     source: &mut S,
     sink: &mut MemSink,
+) -> Result<Status, Fail>
+    requires row_type { IsSync R.row }
+    requires limit { limit ≤ 4294967295 }
+{
+    status_through(rt, alloc, words, limit, source, sink, &FreeGate)
+}
+
+/// How a run of these words ends, through this gate.
+pub(crate) fn status_through<R: Threads + Sync, S: Source, G: Gate + Sync>(
+    rt: &R,
+    alloc: Global,
+    words: &str,
+    limit: u64,
+    source: &mut S,
+    sink: &mut MemSink,
+    gate: &G,
 ) -> Result<Status, Fail>
     requires row_type { IsSync R.row }
     requires limit { limit ≤ 4294967295 }
@@ -66,7 +83,7 @@ fn status_of<R: Threads + Sync, S: Source>(
         source,
         sink,
         &mut notes,
-        &FreeGate,
+        gate,
     ))
 }
 

@@ -1,12 +1,9 @@
-use Rattle.std.proofs.Common.{arith, ◌≡◌, ℕ, ◌<◌, List, length, map, filter, refl, sym, ◌∙◌, ap, subst, All, get_or}
-use Rattle.std.specs.List.{range_with_len}
-use Rattle.std.proofs.lemmas.List.{length-map, get_or-map}
-use Rattle.std.proofs.lemmas.List.Elements.{All-map}
+use Rattle.std.proofs.Common.{length, sym, ◌∙◌, ap}
+use Rattle.std.proofs.lemmas.List.{length-map}
 use Rattle.std.proofs.lemmas.List.FromFn.{length-range_with_len}
 use Rattle.gb_defs.specs.Classes.{rows_below}
 use Rattle.gb_defs.specs.Hash.{partition_of}
 use Rattle.gb_paths.specs.Numbers.{lists_by}
-use Rattle.gb_paths.specs.Partitions.{AreWithin}
 use Rattle.gb_paths.proofs.MemberLemmas.{listed_members, partition_lists, within_from}
 use Rattle.gb_paths.proofs.partitions.partition_rows.Goals as goal
 

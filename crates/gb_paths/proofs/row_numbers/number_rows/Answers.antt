@@ -1,8 +1,8 @@
-use Rattle.std.proofs.Common.{arith, ◌≡◌, ◌<◌, ◌≤◌, ℕ, length, get_or, map, refl, sym, ◌∙◌, ap, true, false}
+use Rattle.std.proofs.Common.{arith, ◌≤◌, length, get_or, refl, sym, ◌∙◌, ap}
 use Rattle.std.proofs.lemmas.List.{length-map}
 use Rattle.std.proofs.lemmas.List.FromFn.{length-range_with_len}
 use Rattle.gb_defs.specs.Classes.{rows_below}
-use Rattle.gb_paths.proofs.KeyLemmas.{alike, few_groups, numbered_none, numbered_old, numbered_new, numbered_groups, numbered_ascend, numbered_each}
+use Rattle.gb_paths.proofs.KeyLemmas.{alike, few_groups, numbered_none, numbered_old, numbered_new, numbered_groups, numbered_ascend}
 use Rattle.gb_paths.proofs.MemberLemmas.{few_members, hash_of_row}
 use Rattle.gb_paths.proofs.row_numbers.number_rows.Goals as goal
 use Rattle.gb_paths.proofs.row_numbers.number_rows.Goals.{then-number-len+in_ok-push, else-number-len}

@@ -1,4 +1,4 @@
-use Rattle.std.proofs.Common.{arith, ◌≡◌, ◌<◌, ◌≤◌, length}
+use Rattle.std.proofs.Common.{arith, ◌<◌, ◌≤◌, length}
 use Rattle.gb_flat.proofs.FillLemmas.{ranges_deal}
 use Rattle.gb_paths.proofs.threaded.deal_partitions.Goals as goal
 

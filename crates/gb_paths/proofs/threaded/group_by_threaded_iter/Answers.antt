@@ -1,12 +1,11 @@
-use Rattle.std.proofs.Common.{arith, ◌≡◌, ◌<◌, ℕ, List, Bool, length, map, refl, sym, ◌∙◌, ap, subst, All, true, false}
+use Rattle.std.proofs.Common.{arith, ◌≡◌, ◌<◌, ℕ, length, ◌∙◌, ap, true, false}
 use Rattle.std.proofs.lemmas.List.{length-map}
 use Rattle.std.proofs.lemmas.List.FromFn.{length-range_with_len}
-use Rattle.gb_defs.specs.Classes.{groups, rows_below}
-use Rattle.gb_defs.specs.Groups.{Grouping, Idx}
-use Rattle.gb_defs.specs.Partitions.{partition_groups, threaded_groups}
+use Rattle.gb_defs.specs.Classes.{rows_below}
+use Rattle.gb_defs.specs.Groups.{Idx}
 use Rattle.gb_defs.proofs.SlotLemmas.{Decides-slot_eq}
 use Rattle.gb_groups.specs.Groups.{lists_of}
-use Rattle.gb_paths.specs.Numbers.{AreMembers, same_slot_at}
+use Rattle.gb_paths.specs.Numbers.{same_slot_at}
 use Rattle.gb_paths.proofs.MemberLemmas.{rows_within}
 use Rattle.gb_paths.proofs.PartitionLemmas.{by_first_rows, united}
 use Rattle.gb_paths.proofs.threaded.group_by_threaded_iter.Goals as goal

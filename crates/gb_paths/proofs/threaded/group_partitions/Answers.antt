@@ -1,4 +1,3 @@
-use Rattle.std.proofs.Common.{arith}
 use Rattle.gb_paths.specs.Numbers.{AreMembers}
 use Rattle.gb_paths.proofs.MemberLemmas.{list_at}
 use Rattle.gb_paths.proofs.threaded.group_partitions.Goals as goal
