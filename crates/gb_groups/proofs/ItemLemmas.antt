@@ -5,8 +5,8 @@ use Rattle.std.proofs.lemmas.Slice.Zip.{length-zip, get_or-zip}
 use Rattle.smallvec.specs.SmallVec.{SmallVec}
 use Rattle.gb_groups.specs.Groups.{lists_of, owned_pair, pairs_of}
 
--- what is left of the lists is as it was
-pub left_at : (now old : List (SmallVec ℕ)) (n : ℕ) (d : SmallVec ℕ) → drop n now ≡ drop n old → get_or now n d ≡ get_or old n d
+-- what is left of a list is as it was
+pub left_at : {X : Type 0} (now old : List X) (n : ℕ) (d : X) → drop n now ≡ drop n old → get_or now n d ≡ get_or old n d
 left_at now old n d same =
     let here : n + 0 ≡ n = omega arith in
     rw here at (sym (get_or-drop n now 0 d) ∙ ap (λ rest. get_or rest 0 d) same ∙ get_or-drop n old 0 d)

@@ -1,17 +1,21 @@
 ghost use Rattle.std.specs.Prelude.{◌≡◌, ◌<◌, ℕ, List, [], length, IsTrue, ◌↔◌, ◌==◌, true, false, map, zip, slice_index_or, IfOk, IfErr, OnOk, OnErr};
-ghost use Rattle.std.specs.List.{flat_map};
+ghost use Rattle.std.specs.List.{flat_map, sum_by};
 ghost use Rattle.std.specs.List.Sorted.{IsNonDecreasing};
+ghost use Rattle.std.specs.Thread.{IsSync};
 ghost use Rattle.gb_cols.specs.PlSmallStr.{IsNoMemory};
 ghost use Rattle.gb_defs.specs.Groups.{Idx};
 
-use crate::items::{count_items, push_items, take_items};
+use crate::items::{push_items, take_items};
 use crate::iter::GroupsIdxIter;
+use crate::parts::{empty_lists, move_shares};
 use gb_cols::error::PolarsResult;
 pub use gb_cols::nullable_idx::IdxSize;
 use gb_cols::pool::Pool;
+use gb_flat::offsets::{cap_and_offsets, split_offsets};
 use smallvec::SmallVec;
 use std::alloc::Global;
 use std::marker::Model;
+use std::thread::Threads;
 
 /// The rows of a group. One row takes no allocation.
 pub type IdxVec = SmallVec<u32, 1>;
@@ -78,16 +82,47 @@ impl GroupsIdx {
         Ok(GroupsIdx::new(first, all, false))
     }
 
-    /// The groups of each part in order, part after part. The pool spreads the work, and changes no answer.
-    pub fn from_parts(
+    /// The groups of each part in order, part after part, moved by as many workers as the pool has, each
+    /// some parts.
+    pub fn from_parts<R: Threads + Sync>(
+        rt: &R,
         alloc: Global,
-        parts: Vec<Vec<IdxItem>>,
-        _pool: &Pool,
+        mut parts: Vec<Vec<IdxItem>>,
+        pool: &Pool,
     ) -> PolarsResult<GroupsIdx>
+        requires row_type { IsSync R.row }
         ensures ok { IfOk result (λ g. g ≡ record { pairs = pairs_of (flat_map (λ part. part.items) parts.items); form = Idx; flagged = false }) }
         ensures err { IfErr result IsNoMemory }
     {
-        let count = count_items(&parts)?;
+        let (count, starts) = cap_and_offsets(alloc, &parts)?;
+        let workers = pool.workers().min(parts.len());
+        if workers < 2 {
+            return GroupsIdx::join_parts(alloc, parts, count);
+        }
+        let shares = split_offsets(alloc, parts.len(), workers)?;
+        let mut first = vec![in alloc; 0; count]?;
+        let mut all = empty_lists(alloc, count)?;
+        move_shares(
+            rt,
+            &shares,
+            &starts,
+            parts.as_mut_slice(),
+            first.as_mut_slice(),
+            all.as_mut_slice(),
+        );
+        Ok(GroupsIdx::new(first, all, false))
+    }
+
+    // The same by one worker, of parts with so many groups.
+    fn join_parts(
+        alloc: Global,
+        parts: Vec<Vec<IdxItem>>,
+        count: usize,
+    ) -> PolarsResult<GroupsIdx>
+        requires { count ≡ sum_by (λ part. length part.items) parts.items }
+        ensures ok { IfOk result (λ g. g ≡ record { pairs = pairs_of (flat_map (λ part. part.items) parts.items); form = Idx; flagged = false }) }
+        ensures err { IfErr result IsNoMemory }
+    {
         let mut first = Vec::with_capacity(alloc, count)?;
         let mut all = Vec::with_capacity(alloc, count)?;
         for part in parts {
@@ -210,26 +245,28 @@ mod tests {
     #[test]
     fn groups_of_one_first_row_keep_their_order(rt: HostRuntime) -> Result<(), Fail> {
         let alloc = rt.alloc();
-        let pool = Pool::new(1, 1, 1, 1, 0);
         let given = [(2, 0), (1, 1), (2, 2), (0, 3), (1, 4)];
         let joined = [(2, 0), (1, 1), (2, 2), (0, 3), (1, 4), (0, 5), (2, 6)];
         let sorted = [(0, 3), (0, 5), (1, 1), (1, 4), (2, 0), (2, 2), (2, 6)];
 
-        let groups = GroupsIdx::from_items(alloc, items(alloc, &given)?)?;
-        expect_pairs(&rt, &groups, &given);
-        let mut parts = Vec::new(alloc);
-        parts.push(groups.into_items()?)?;
-        parts.push(Vec::new(alloc))?;
-        parts.push(items(alloc, &[(0, 5), (2, 6)])?)?;
-        let mut groups = GroupsIdx::from_parts(alloc, parts, &pool)?;
-        assert!(rt; !groups.is_sorted_flag());
-        expect_pairs(&rt, &groups, &joined);
-        groups.sort()?;
-        assert!(rt; groups.is_sorted_flag());
-        expect_pairs(&rt, &groups, &sorted);
-        let mut groups = GroupsType::from(groups);
-        groups.sort()?;
-        expect_pairs(&rt, groups.unwrap_idx(), &sorted);
+        for workers in [1, 4] {
+            let pool = Pool::new(workers, 1, 1, 1, 0);
+            let groups = GroupsIdx::from_items(alloc, items(alloc, &given)?)?;
+            expect_pairs(&rt, &groups, &given);
+            let mut parts = Vec::new(alloc);
+            parts.push(groups.into_items()?)?;
+            parts.push(Vec::new(alloc))?;
+            parts.push(items(alloc, &[(0, 5), (2, 6)])?)?;
+            let mut groups = GroupsIdx::from_parts(&rt, alloc, parts, &pool)?;
+            assert!(rt; !groups.is_sorted_flag());
+            expect_pairs(&rt, &groups, &joined);
+            groups.sort()?;
+            assert!(rt; groups.is_sorted_flag());
+            expect_pairs(&rt, &groups, &sorted);
+            let mut groups = GroupsType::from(groups);
+            groups.sort()?;
+            expect_pairs(&rt, groups.unwrap_idx(), &sorted);
+        }
         Ok(())
     }
 }

@@ -27,18 +27,6 @@ pub(crate) fn push_items(first: &mut Vec<IdxSize>, all: &mut Vec<IdxVec>, items:
     }
 }
 
-/// How many items the parts have. More than a `usize` counts are more than memory holds.
-pub(crate) fn count_items(parts: &[Vec<IdxItem>]) -> PolarsResult<usize>
-    ensures ok { IfOk result (λ count. count ≡ length (flat_map (λ part. part.items) parts.now)) }
-    ensures err { IfErr result IsNoMemory }
-{
-    let mut count = 0usize;
-    for part in parts {
-        count = count.checked_add(part.len()).ok_or(PolarsError::NoMemory)?;
-    }
-    Ok(count)
-}
-
 /// Moves all groups out of both vectors, which keep their room.
 pub(crate) fn take_items(
     first: &mut Vec<IdxSize>,

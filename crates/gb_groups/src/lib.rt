@@ -6,3 +6,4 @@ pub mod groups_idx;
 pub mod groups_type;
 mod items;
 pub mod iter;
+mod parts;

@@ -1,12 +1,13 @@
 use Rattle.std.proofs.Common.{◌≡◌, ℕ, List, false, length, sym, ap, ◌∙◌, arith}
 use Rattle.std.specs.List.{flat_map}
 use Rattle.std.proofs.lemmas.List.{length-map, map-id}
+use Rattle.std.proofs.lemmas.List.Concat.{length-flat_map}
 use Rattle.std.proofs.lemmas.Iterator.Adapters.{YieldsList-from_vec}
 use Rattle.std.proofs.lemmas.Iterator.Consumers.{YieldsList-so_far, YieldsList-turn, YieldsList-end}
 use Rattle.gb_defs.specs.Groups.{Grouping, Idx}
 use Rattle.gb_groups.proofs.ItemLemmas.{apart}
 use Rattle.gb_groups.proofs.PartLemmas.{joined_room}
-use Rattle.gb_groups.proofs.groups_idx.GroupsIdx.from_parts.Goals as goal
+use Rattle.gb_groups.proofs.groups_idx.GroupsIdx.join_parts.Goals as goal
 
 abbrev unsorted : List (ℕ × List ℕ) → Grouping
 unsorted pairs = record { pairs = pairs; form = Idx; flagged = false }
@@ -18,7 +19,7 @@ push_items-requires-clause-first_room c =
     let so_far = YieldsList-so_far road c.loop-part.yielded _ c.loop-part.yielded_by in
     let turn = YieldsList-turn road c.loop-part.yielded _ c.loop-part.yielded_by _ c.next.new.self c.in-Some.part c.in-Some.is c.next.ensures.steps in
     let room = joined_room (λ part. part.items) c.args.parts.items c.loop-part.yielded c.in-Some.part so_far turn.0 turn.1 in
-    let counted = rw c.deref.ensures.value at c.in_ok-count.ensures.ok in
+    let counted = c.requires ∙ sym (length-flat_map (λ part. part.items) c.args.parts.items) in
     let long = ap length c.loop-part.invariant.firsts ∙ length-map (flat_map (λ part. part.items) c.loop-part.yielded) _ in
     omega (arith, room, counted, long)
 
@@ -29,7 +30,7 @@ push_items-requires-clause-all_room c =
     let so_far = YieldsList-so_far road c.loop-part.yielded _ c.loop-part.yielded_by in
     let turn = YieldsList-turn road c.loop-part.yielded _ c.loop-part.yielded_by _ c.next.new.self c.in-Some.part c.in-Some.is c.next.ensures.steps in
     let room = joined_room (λ part. part.items) c.args.parts.items c.loop-part.yielded c.in-Some.part so_far turn.0 turn.1 in
-    let counted = rw c.deref.ensures.value at c.in_ok-count.ensures.ok in
+    let counted = c.requires ∙ sym (length-flat_map (λ part. part.items) c.args.parts.items) in
     let long = ap length c.loop-part.invariant.lists ∙ length-map (flat_map (λ part. part.items) c.loop-part.yielded) _ in
     omega (arith, room, counted, long)
 

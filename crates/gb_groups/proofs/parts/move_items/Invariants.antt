@@ -1,0 +1,11 @@
+use Rattle.std.proofs.Common.{◌≡◌, length, map, take}
+use Rattle.gb_groups.proofs.parts.move_items.Given as goal
+
+abbrev pub invariant-loop-row : goal.invariant-loop-row
+invariant-loop-row l = record {
+  can_next : (goal.iterator-loop-row).can_next l.row-iterator;
+  ends : (goal.iterator-loop-row).is_finite l.row-iterator;
+  at : l.place ≡ length l.yielded;
+  first_rows : take l.place l.first ≡ map (λ item. item.0) l.yielded;
+  lists : take l.place l.all ≡ map (λ item. item.1) l.yielded;
+}
