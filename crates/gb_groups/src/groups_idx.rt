@@ -1,5 +1,5 @@
 ghost use Rattle.std.specs.Prelude.{◌≡◌, ◌<◌, ℕ, List, [], length, IsTrue, ◌↔◌, ◌==◌, true, false, map, zip, slice_index_or, IfOk, IfErr, OnOk, OnErr};
-ghost use Rattle.std.specs.List.{flat_map, sum_by};
+ghost use Rattle.std.specs.List.{flat_map};
 ghost use Rattle.std.specs.List.Sorted.{IsNonDecreasing};
 ghost use Rattle.std.specs.Thread.{IsSync};
 ghost use Rattle.gb_cols.specs.PlSmallStr.{IsNoMemory};
@@ -7,11 +7,11 @@ ghost use Rattle.gb_defs.specs.Groups.{Idx};
 
 use crate::items::{push_items, take_items};
 use crate::iter::GroupsIdxIter;
-use crate::parts::{empty_lists, move_shares};
+use crate::parts::{join_parts, spread_parts};
 use gb_cols::error::PolarsResult;
 pub use gb_cols::nullable_idx::IdxSize;
 use gb_cols::pool::Pool;
-use gb_flat::offsets::{cap_and_offsets, split_offsets};
+use gb_flat::offsets::cap_and_offsets;
 use smallvec::SmallVec;
 use std::alloc::Global;
 use std::marker::Model;
@@ -87,7 +87,7 @@ impl GroupsIdx {
     pub fn from_parts<R: Threads + Sync>(
         rt: &R,
         alloc: Global,
-        mut parts: Vec<Vec<IdxItem>>,
+        parts: Vec<Vec<IdxItem>>,
         pool: &Pool,
     ) -> PolarsResult<GroupsIdx>
         requires row_type { IsSync R.row }
@@ -97,37 +97,10 @@ impl GroupsIdx {
         let (count, starts) = cap_and_offsets(alloc, &parts)?;
         let workers = pool.workers().min(parts.len());
         if workers < 2 {
-            return GroupsIdx::join_parts(alloc, parts, count);
+            let (first, all) = join_parts(alloc, parts, count)?;
+            return Ok(GroupsIdx::new(first, all, false));
         }
-        let shares = split_offsets(alloc, parts.len(), workers)?;
-        let mut first = vec![in alloc; 0; count]?;
-        let mut all = empty_lists(alloc, count)?;
-        move_shares(
-            rt,
-            &shares,
-            &starts,
-            parts.as_mut_slice(),
-            first.as_mut_slice(),
-            all.as_mut_slice(),
-        );
-        Ok(GroupsIdx::new(first, all, false))
-    }
-
-    // The same by one worker, of parts with so many groups.
-    fn join_parts(
-        alloc: Global,
-        parts: Vec<Vec<IdxItem>>,
-        count: usize,
-    ) -> PolarsResult<GroupsIdx>
-        requires { count ≡ sum_by (λ part. length part.items) parts.items }
-        ensures ok { IfOk result (λ g. g ≡ record { pairs = pairs_of (flat_map (λ part. part.items) parts.items); form = Idx; flagged = false }) }
-        ensures err { IfErr result IsNoMemory }
-    {
-        let mut first = Vec::with_capacity(alloc, count)?;
-        let mut all = Vec::with_capacity(alloc, count)?;
-        for part in parts {
-            push_items(&mut first, &mut all, part);
-        }
+        let (first, all) = spread_parts(rt, alloc, parts, count, &starts, workers)?;
         Ok(GroupsIdx::new(first, all, false))
     }
 

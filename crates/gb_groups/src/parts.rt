@@ -1,6 +1,7 @@
-//! Items of several parts, moved into slices that hold as many. Row lists are moved, never copied.
+//! The first rows and the row lists of the items of several parts, part after part. Row lists are
+//! moved, never copied.
 
-ghost use Rattle.std.specs.Prelude.{◌≡◌, length, map, slice_index_or, IfOk, IfErr};
+ghost use Rattle.std.specs.Prelude.{◌≡◌, ◌<◌, ◌≤◌, length, map, slice_index_or, IfOk, IfErr};
 ghost use Rattle.std.specs.List.{flat_map, sum_by};
 ghost use Rattle.std.specs.Thread.{IsSync};
 ghost use Rattle.gb_defs.specs.Flat.{starts_from};
@@ -8,14 +9,66 @@ ghost use Rattle.gb_cols.specs.PlSmallStr.{IsNoMemory};
 ghost use Rattle.gb_flat.specs.Shares.{DealsOut};
 
 use crate::groups_idx::{IdxItem, IdxSize, IdxVec};
+use crate::items::push_items;
 use gb_cols::error::PolarsResult;
+use gb_flat::offsets::split_offsets;
 use smallvec::SmallVec;
 use std::alloc::Global;
 use std::mem;
 use std::thread::{Threads, join_mut};
 
-/// So many lists with no rows. None takes an allocation.
-pub(crate) fn empty_lists(alloc: Global, count: usize) -> PolarsResult<Vec<IdxVec>>
+/// Both by one worker, of parts with so many items.
+pub(crate) fn join_parts(
+    alloc: Global,
+    parts: Vec<Vec<IdxItem>>,
+    count: usize,
+) -> PolarsResult<(Vec<IdxSize>, Vec<IdxVec>)>
+    requires { count ≡ sum_by (λ part. length part.items) parts.items }
+    ensures first_rows { IfOk result (λ made. made.0.items ≡ map (λ item. item.0) (flat_map (λ part. part.items) parts.items)) }
+    ensures lists { IfOk result (λ made. made.1.items ≡ map (λ item. item.1) (flat_map (λ part. part.items) parts.items)) }
+    ensures err { IfErr result IsNoMemory }
+{
+    let mut first = Vec::with_capacity(alloc, count)?;
+    let mut all = Vec::with_capacity(alloc, count)?;
+    for part in parts {
+        push_items(&mut first, &mut all, part);
+    }
+    Ok((first, all))
+}
+
+/// Both by so many workers, each some of the parts, which have so many items and begin at these starts.
+pub(crate) fn spread_parts<R: Threads + Sync>(
+    rt: &R,
+    alloc: Global,
+    mut parts: Vec<Vec<IdxItem>>,
+    count: usize,
+    starts: &[usize],
+    workers: usize,
+) -> PolarsResult<(Vec<IdxSize>, Vec<IdxVec>)>
+    requires row_type { IsSync R.row }
+    requires count { count ≡ sum_by (λ part. length part.items) parts.items }
+    requires starts { starts.now ≡ starts_from 0 (map (λ part. length part.items) parts.items) }
+    requires workers { (0 < workers) × (workers ≤ length parts.items) }
+    ensures first_rows { IfOk result (λ made. made.0.items ≡ map (λ item. item.0) (flat_map (λ part. part.items) parts.items)) }
+    ensures lists { IfOk result (λ made. made.1.items ≡ map (λ item. item.1) (flat_map (λ part. part.items) parts.items)) }
+    ensures err { IfErr result IsNoMemory }
+{
+    let shares = split_offsets(alloc, parts.len(), workers)?;
+    let mut first = vec![in alloc; 0; count]?;
+    let mut all = empty_lists(alloc, count)?;
+    move_shares(
+        rt,
+        &shares,
+        starts,
+        parts.as_mut_slice(),
+        first.as_mut_slice(),
+        all.as_mut_slice(),
+    );
+    Ok((first, all))
+}
+
+// So many lists with no rows. None takes an allocation.
+fn empty_lists(alloc: Global, count: usize) -> PolarsResult<Vec<IdxVec>>
     ensures ok { IfOk result (λ lists. length lists.items ≡ count) }
     ensures err { IfErr result IsNoMemory }
 {
@@ -26,10 +79,10 @@ pub(crate) fn empty_lists(alloc: Global, count: usize) -> PolarsResult<Vec<IdxVe
     Ok(lists)
 }
 
-/// Moves the items of the parts one after another into both slices, which they fill. Each share of the
-/// parts but the last is moved in a thread of its own.
+// Moves the items of the parts one after another into both slices, which they fill. Each share of the
+// parts but the last is moved in a thread of its own.
 #[cycle(shares)]
-pub(crate) fn move_shares<R: Threads + Sync>(
+fn move_shares<R: Threads + Sync>(
     rt: &R,
     shares: &[(usize, usize)],
     starts: &[usize],

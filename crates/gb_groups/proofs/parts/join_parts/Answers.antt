@@ -7,10 +7,7 @@ use Rattle.std.proofs.lemmas.Iterator.Consumers.{YieldsList-so_far, YieldsList-t
 use Rattle.gb_defs.specs.Groups.{Grouping, Idx}
 use Rattle.gb_groups.proofs.ItemLemmas.{apart}
 use Rattle.gb_groups.proofs.PartLemmas.{joined_room}
-use Rattle.gb_groups.proofs.groups_idx.GroupsIdx.join_parts.Goals as goal
-
-abbrev unsorted : List (ℕ × List ℕ) → Grouping
-unsorted pairs = record { pairs = pairs; form = Idx; flagged = false }
+use Rattle.gb_groups.proofs.parts.join_parts.Goals as goal
 
 pub push_items-requires-clause-first_room : goal.push_items-requires-clause-first_room
 push_items-requires-clause-first_room c =
@@ -34,10 +31,18 @@ push_items-requires-clause-all_room c =
     let long = ap length c.loop-part.invariant.lists ∙ length-map (flat_map (λ part. part.items) c.loop-part.yielded) _ in
     omega (arith, room, counted, long)
 
-pub returns-clause-ok : goal.returns-clause-ok
-returns-clause-ok c =
+pub returns-clause-first_rows : goal.returns-clause-first_rows
+returns-clause-first_rows c =
     let gives = c.into_iter-part-iterator.ensures.into_iter_gives in
     let road = YieldsList-from_vec c.args.parts.items gives.0 (gives.1 ∙ c.args.parts.ok.0) in
     let end = YieldsList-end road c.loop-part.yielded _ c.loop-part.yielded_by _ c.next.new.self c.in-None.is c.next.ensures.steps in
     let all : c.loop-part.yielded ≡ c.args.parts.items = sym (map-id c.loop-part.yielded) ∙ end.0 in
-    c.new.ensures ∙ ap unsorted (rw (c.loop-part.invariant.firsts, c.loop-part.invariant.lists, all) (apart (flat_map (λ part. part.items) c.args.parts.items)))
+    rw (← all) c.loop-part.invariant.firsts
+
+pub returns-clause-lists : goal.returns-clause-lists
+returns-clause-lists c =
+    let gives = c.into_iter-part-iterator.ensures.into_iter_gives in
+    let road = YieldsList-from_vec c.args.parts.items gives.0 (gives.1 ∙ c.args.parts.ok.0) in
+    let end = YieldsList-end road c.loop-part.yielded _ c.loop-part.yielded_by _ c.next.new.self c.in-None.is c.next.ensures.steps in
+    let all : c.loop-part.yielded ≡ c.args.parts.items = sym (map-id c.loop-part.yielded) ∙ end.0 in
+    rw (← all) c.loop-part.invariant.lists
