@@ -222,7 +222,7 @@ mod tests {
         let joined = [(2, 0), (1, 1), (2, 2), (0, 3), (1, 4), (0, 5), (2, 6)];
         let sorted = [(0, 3), (0, 5), (1, 1), (1, 4), (2, 0), (2, 2), (2, 6)];
 
-        for workers in [1, 4] {
+        for workers in [1, 2, 4] {
             let pool = Pool::new(workers, 1, 1, 1, 0);
             let groups = GroupsIdx::from_items(alloc, items(alloc, &given)?)?;
             expect_pairs(&rt, &groups, &given);

@@ -1,4 +1,4 @@
-use Rattle.std.proofs.Common.{rules, ◌≡◌, ◌∙◌, length, map, take, drop, slice_index_or, ℕ, ◌+◌, ◌-◌, ◌*◌, ◌<◌, ◌≤◌, ◌∷◌, List, refl, ap, arith, subst, Vec, Global}
+use Rattle.std.proofs.Common.{rules, ◌≡◌, length, take, drop, ℕ, ◌-◌, ◌<◌, refl, arith, subst, Vec, Global}
 use Rattle.std.specs.List.{sum_by}
 use Rattle.std.proofs.lemmas.Bool.Decides.{nat_tests}
 use Rattle.std.proofs.lemmas.List.{length-map}

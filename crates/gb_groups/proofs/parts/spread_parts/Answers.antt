@@ -1,13 +1,9 @@
-use Rattle.std.proofs.Common.{rules, ◌≡◌, ◌∙◌, ℕ, ◌<◌, ◌≤◌, List, false, length, map, zip, slice_index_or, subst, sym, ap, arith, Vec, Global}
+use Rattle.std.proofs.Common.{◌≡◌, ◌∙◌, ℕ, ◌<◌, List, length, map, slice_index_or, subst, sym, ap, arith, Vec, Global}
 use Rattle.std.proofs.lemmas.List.{length-map}
-use Rattle.std.specs.List.{flat_map}
 use Rattle.smallvec.specs.SmallVec.{SmallVec}
 use Rattle.gb_defs.specs.Flat.{ranges_of, starts_from}
-use Rattle.gb_defs.specs.Groups.{Grouping, Idx}
 use Rattle.gb_flat.specs.Shares.{DealsOut}
 use Rattle.gb_flat.proofs.FillLemmas.{first_start, ranges_deal}
-use Rattle.gb_groups.specs.Groups.{lists_of, pairs_of}
-use Rattle.gb_groups.proofs.ItemLemmas.{apart}
 use Rattle.gb_groups.proofs.parts.spread_parts.Goals as goal
 
 pub move_shares-requires-clause-dealt : goal.move_shares-requires-clause-dealt
