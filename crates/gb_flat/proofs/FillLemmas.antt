@@ -16,7 +16,7 @@ length-starts_from : (start : ℕ) (lengths : List ℕ) → length (starts_from 
 length-starts_from start [] = refl
 length-starts_from start (n ∷ lengths) = ap (λ k. suc k) (length-starts_from (start + n) lengths)
 
-first_start : (start : ℕ) (lengths : List ℕ) → 0 < length lengths → slice_index_or (starts_from start lengths) 0 0 ≡ start
+pub first_start : (start : ℕ) (lengths : List ℕ) → 0 < length lengths → slice_index_or (starts_from start lengths) 0 0 ≡ start
 first_start start [] some = absurd (omega arith)
 first_start start (n ∷ lengths) some = refl
 

@@ -56,7 +56,7 @@ pub fn group_by_threaded_iter<T: Threads + Sync, R: KeyRows, G: Gate + Sync>(
     let hashes = hash_rows(alloc, rows)?;
     let members = partition_rows(alloc, hashes.as_slice(), n_partitions)?;
     let parts = deal_partitions(rt, alloc, rows, &members, &hashes, pool, gate)?;
-    let mut groups = GroupsIdx::from_parts(alloc, parts, pool)?;
+    let mut groups = GroupsIdx::from_parts(rt, alloc, parts, pool)?;
     if sorted {
         groups.sort()?;
     }
