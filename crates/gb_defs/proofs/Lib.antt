@@ -1,7 +1,6 @@
 pub mod AnswerLemmas
 pub mod ClassesLemmas
 pub mod FoldLemmas
-pub mod MapLemmas
 pub mod PartitionLemmas
 pub mod SlotLemmas
 pub mod WrapLemmas
