@@ -198,29 +198,46 @@ mod tests {
     use std::process::Abort;
     use std::test::Fail;
 
-    // Groups of one row each: the first row that they are told to have, and the row.
-    fn items(alloc: Global, pairs: &[(u32, u32)]) -> Result<Vec<IdxItem>, Fail> {
+    /// A first row, and the rows of its group.
+    type Pair<'a> = (u32, &'a [u32]);
+
+    fn items(alloc: Global, pairs: &[Pair<'_>]) -> Result<Vec<IdxItem>, Fail> {
         let mut items: Vec<IdxItem> = Vec::new(alloc);
-        for (first, row) in pairs {
-            items.push((*first, SmallVec::from_slice(alloc, &[*row])?))?;
+        for (first, rows) in pairs {
+            items.push((*first, SmallVec::from_slice(alloc, *rows)?))?;
         }
         Ok(items)
     }
 
-    fn expect_pairs<R: Abort>(rt: &R, groups: &GroupsIdx, pairs: &[(u32, u32)]) {
+    fn expect_pairs<R: Abort>(rt: &R, groups: &GroupsIdx, pairs: &[Pair<'_>]) {
         assert_eq!(rt; groups.len(), pairs.len());
         for ((first, rows), pair) in groups.iter().zip(pairs.iter()) {
             assert_eq!(rt; first, pair.0);
-            assert_eq!(rt; rows.as_slice(), [pair.1].as_slice());
+            assert_eq!(rt; rows.as_slice(), pair.1);
         }
     }
 
     #[test]
     fn groups_of_one_first_row_keep_their_order(rt: HostRuntime) -> Result<(), Fail> {
         let alloc = rt.alloc();
-        let given = [(2, 0), (1, 1), (2, 2), (0, 3), (1, 4)];
-        let joined = [(2, 0), (1, 1), (2, 2), (0, 3), (1, 4), (0, 5), (2, 6)];
-        let sorted = [(0, 3), (0, 5), (1, 1), (1, 4), (2, 0), (2, 2), (2, 6)];
+        let given: [Pair<'_>; 4] = [(3, &[3]), (0, &[0, 1]), (3, &[4]), (2, &[5])];
+        let more: [Pair<'_>; 2] = [(0, &[6]), (1, &[7])];
+        let joined: [Pair<'_>; 6] = [
+            (3, &[3]),
+            (0, &[0, 1]),
+            (3, &[4]),
+            (2, &[5]),
+            (0, &[6]),
+            (1, &[7]),
+        ];
+        let sorted: [Pair<'_>; 6] = [
+            (0, &[0, 1]),
+            (0, &[6]),
+            (1, &[7]),
+            (2, &[5]),
+            (3, &[3]),
+            (3, &[4]),
+        ];
 
         for workers in [1, 2, 4] {
             let pool = Pool::new(workers, 1, 1, 1, 0);
@@ -229,7 +246,7 @@ mod tests {
             let mut parts = Vec::new(alloc);
             parts.push(groups.into_items()?)?;
             parts.push(Vec::new(alloc))?;
-            parts.push(items(alloc, &[(0, 5), (2, 6)])?)?;
+            parts.push(items(alloc, &more)?)?;
             let mut groups = GroupsIdx::from_parts(&rt, alloc, parts, &pool)?;
             assert!(rt; !groups.is_sorted_flag());
             expect_pairs(&rt, &groups, &joined);
@@ -240,6 +257,19 @@ mod tests {
             groups.sort()?;
             expect_pairs(&rt, groups.unwrap_idx(), &sorted);
         }
+        Ok(())
+    }
+
+    #[test]
+    fn groups_are_put_in_order(rt: HostRuntime) -> Result<(), Fail> {
+        let alloc = rt.alloc();
+        let pairs: [Pair<'_>; 2] = [(3, &[3]), (0, &[0, 1])];
+        let mut groups = GroupsIdx::from_items(alloc, items(alloc, &pairs)?)?;
+        assert!(rt; !groups.is_sorted_flag());
+        expect_pairs(&rt, &groups, &pairs);
+        groups.sort()?;
+        assert!(rt; groups.is_sorted_flag());
+        expect_pairs(&rt, &groups, &[(0, &[0, 1]), (3, &[3])]);
         Ok(())
     }
 }

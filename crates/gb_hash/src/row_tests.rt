@@ -26,6 +26,10 @@ fn rows_of_each_kind(rt: HostRuntime) -> Result<(), Fail> {
     texts.push(wanted_texts[1])?;
     texts.push(wanted_texts[2])?;
     texts.push(wanted_texts[3])?;
+    let mut two = StringChunked::new(alloc, PlSmallStr::from_str(alloc, "t")?);
+    two.push(Some("a"))?;
+    two.push(None)?;
+    assert_eq!(rt; ByteRows::new(&two, mixer).len(), 2);
     let numbers = NumRows::new(&numbers, mixer);
     let texts = ByteRows::new(&texts, mixer);
     let null = 10369894495938295073;

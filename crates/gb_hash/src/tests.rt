@@ -14,7 +14,13 @@ fn hashes_joined(rt: HostRuntime) -> Result<(), Fail> {
     for (l, r, wanted) in joined {
         assert_eq!(rt; _boost_hash_combine(l, r), wanted, "{l} and {r}");
     }
-    let multiplied = [(3, 5, 15), (1 << 63, 6, 3), (u64::MAX, u64::MAX, u64::MAX)];
+    let multiplied = [
+        (3, 5, 15),
+        (1 << 32, 1 << 32, 1),
+        (1 << 63, 6, 3),
+        (u64::MAX, 2, u64::MAX),
+        (u64::MAX, u64::MAX, u64::MAX),
+    ];
     for (a, b, wanted) in multiplied {
         assert_eq!(rt; folded_multiply(a, b), wanted, "{a} times {b}");
     }
