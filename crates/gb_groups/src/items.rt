@@ -1,13 +1,10 @@
 //! Groups as first rows and row lists apart, and as items. Row lists are moved, never copied.
 
-ghost use Rattle.std.specs.Prelude.{◌≡◌, ◌+◌, ◌≤◌, [], ◌++◌, length, map, zip, IfOk, IfErr, OnOk, OnErr};
-ghost use Rattle.std.specs.List.{flat_map};
+ghost use Rattle.std.specs.Prelude.{◌≡◌, ◌+◌, ◌≤◌, [], ◌++◌, length, map, zip, IfOk, OnOk, OnErr};
 ghost use Rattle.std.specs.Vec.{vec_capacity};
-ghost use Rattle.gb_cols.specs.PlSmallStr.{IsNoMemory};
 ghost use Rattle.gb_groups.specs.Groups.{lists_of, pairs_of};
 
 use crate::groups_idx::{IdxItem, IdxSize, IdxVec};
-use gb_cols::error::{PolarsError, PolarsResult};
 use smallvec::SmallVec;
 use std::alloc::AllocError;
 use std::mem;
