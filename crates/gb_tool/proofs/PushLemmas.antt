@@ -1,8 +1,10 @@
 -- Slots put at the ends of columns, and a record's cells, one column after the other.
-use Rattle.std.proofs.Common.{◌≡◌, ℕ, ◌+◌, ◌<◌, ◌≤◌, zero, suc, List, [], ◌∷◌, ◌++◌, length, get_or, set, take, drop, refl, sym, ◌∙◌, ap, append_assoc, add-one, arith, Option, Some, None}
+use Rattle.std.proofs.Common.{◌≡◌, ℕ, ◌+◌, ◌-◌, ◌<◌, ◌≤◌, zero, suc, List, [], ◌∷◌, ◌++◌, length, get_or, get_or-drop, set, take, drop, refl, sym, ◌∙◌, ap, append_assoc, add-one, arith, Option, Some, None}
 use Rattle.std.specs.Prelude.{option_map}
 use Rattle.std.proofs.lemmas.List.{append-nil, length-append, take_all, drop_all, drop_more, take_more_set, drop-set-lt}
-use Rattle.csv.specs.Records.{field_at}
+use Rattle.std.specs.Str.{IsAscii, IsUtf8}
+use Rattle.std.proofs.lemmas.Str.{IsUtf8-from_ascii}
+use Rattle.csv.specs.Records.{AllText, cut_from, field_at}
 use Rattle.gb_defs.specs.Slot.{Slot}
 use Rattle.gb_defs.specs.ColumnType.{ColumnType}
 use Rattle.gb_defs.specs.Column.{ColumnValue, Frame, plain_column}
@@ -35,6 +37,26 @@ unfolding field_at
 field_some [] i lt e = omega (arith, lt)
 field_some (f ∷ fields) zero lt e = cc
 field_some (f ∷ fields) (suc i) lt e = field_some fields i (omega (arith, lt)) e
+
+ascii_take : (n : ℕ) (bytes : List ℕ) → IsAscii bytes → IsAscii (take n bytes)
+ascii_take zero bytes h i = omega arith
+ascii_take (suc n) [] h i = omega arith
+ascii_take (suc n) (b ∷ bytes) h zero = h 0
+ascii_take (suc n) (b ∷ bytes) h (suc i) = ascii_take n bytes (λ k. h (suc k)) i
+
+-- each part of ASCII bytes is a text
+pub ascii_fields : (start : ℕ) (ends bytes : List ℕ) → IsAscii bytes → AllText (cut_from start ends bytes)
+unfolding AllText cut_from
+ascii_fields start [] bytes h = tt
+ascii_fields start (end ∷ ends) bytes h =
+    let rest : IsAscii (drop start bytes) = λ i. rw (get_or-drop start bytes i 0) (h (start + i)) in
+    (IsUtf8-from_ascii _ (ascii_take (end - start) _ rest), ascii_fields end ends bytes h)
+
+pub text_at : (fields : List (List ℕ)) (i : ℕ) (field : List ℕ) → AllText fields → field_at fields i ≡ Some field → IsUtf8 field
+unfolding AllText field_at
+text_at [] i field h e = cc
+text_at (f ∷ fields) zero field h e = let same : f ≡ field = cc in rw (← same) h.0
+text_at (f ∷ fields) (suc i) field h e = text_at fields i field h.1 e
 
 front_more : (front : Frame) (c : ColumnValue) (o : Option Frame) → option_map (λ cs. front ++ cs) (both_onto (Some c) o) ≡ option_map (λ cs. (front ++ c ∷ []) ++ cs) o
 front_more front c None = refl

@@ -4,7 +4,7 @@ use Rattle.std.proofs.lemmas.List.Elements.{All-set}
 use Rattle.csv.specs.Records.{fields_of}
 use Rattle.gb_series.specs.Series.{value_of}
 use Rattle.gb_tool.specs.Table.{IsTyped}
-use Rattle.gb_tool.proofs.PushLemmas.{columns_ragged, field_some, pushing_none, pushing_bad, pushing_more, pushing_all}
+use Rattle.gb_tool.proofs.PushLemmas.{columns_ragged, field_some, text_at, pushing_none, pushing_bad, pushing_more, pushing_all}
 use Rattle.gb_tool.proofs.table.column.push_record.Goals as goal
 
 pub returns-then-len-columns-clause-ok : goal.returns-then-len-columns-clause-ok
@@ -27,6 +27,7 @@ pub push_cell-requires : goal.push_cell-requires
 push_cell-requires c = record {
   typed = c.loop-place.invariant.typed c.loop-place.place c.index-columns-place.result (omega arith);
   room = c.loop-place.invariant.room c.loop-place.place c.index-columns-place.result (omega arith) (omega arith);
+  known = λ plain. text_at (fields_of c.args.row.now) c.loop-place.place c.in-Some.cell.now (c.is_plain-plain.ensures plain) (sym c.in-Some.ensures.value);
 }
 
 pub returns-then-not-branch-clause-ok : goal.returns-then-not-branch-clause-ok

@@ -8,16 +8,16 @@ use Rattle.gb_tool.proofs.table.column.push_text.Goals as goal
 pub returns-then-eq-clause-ok : goal.returns-then-eq-clause-ok
 returns-then-eq-clause-ok c =
     let same = ap (bytes_eq c.args.cell.now) (sym c.as_bytes.ensures.value) ∙ sym c.eq.ensures ∙ c.if-eq.true in
-    ap (λ v. Some v) c.in_ok-push_null.ensures.ok ∙ sym (null_cell c.args.null_word.now c.args.cell.now c.args.column.now same)
+    ap (λ v. Some v) c.in-Ok.ensures.ok ∙ sym (null_cell c.args.null_word.now c.args.cell.now c.args.column.now same)
 
-pub returns-in_default-clause-ok : goal.returns-in_default-clause-ok
-returns-in_default-clause-ok c =
+pub returns-in_default-text_of-clause-ok : goal.returns-in_default-text_of-clause-ok
+returns-in_default-text_of-clause-ok c =
     let other = ap (bytes_eq c.args.cell.now) (sym c.as_bytes.ensures.value) ∙ sym c.eq.ensures ∙ c.if-eq.false in
-    sym (no_text_cell c.args.null_word.now c.args.cell.now c.args.column.now other c.requires.dtype c.in_default.ensures.cases.0)
+    sym (no_text_cell c.args.null_word.now c.args.cell.now c.args.column.now other c.requires.dtype c.in_default-text_of.ensures)
 
 pub returns-clause-ok : goal.returns-clause-ok
 returns-clause-ok c =
     let other = ap (bytes_eq c.args.cell.now) (sym c.as_bytes.ensures.value) ∙ sym c.eq.ensures ∙ c.if-eq.false in
-    let text = c.in-Ok.ensures.cases in
-    ap (λ v. Some v) c.in_ok-push.ensures.ok ∙ ap (λ bs. Some (pushed c.args.column.now (Bytes bs))) text.0
+    let text = c.in-Some.ensures in
+    ap (λ v. Some v) c.in-Ok-push.ensures.ok ∙ ap (λ bs. Some (pushed c.args.column.now (Bytes bs))) text.0
     ∙ sym (text_cell c.args.null_word.now c.args.cell.now c.args.column.now other c.requires.dtype text.1)
