@@ -148,23 +148,65 @@ fn group_in_partitions<T: Abort + Threads + Sync>(
     Ok(())
 }
 
-// The groups of columns, by whatever path.
+// Whether a column of texts has these groups by either path.
+fn texts_are<T: Threads + Sync>(
+    rt: &T,
+    alloc: Global,
+    pool: &Pool,
+    values: &[Option<&str>],
+    wanted: &[Wanted<'_>],
+) -> PolarsResult<bool>
+    requires row_type { IsSync T.row }
+    requires few { length values.now < 2 ^ 32 }
+{
+    let column = texts(alloc, values)?;
+    let groups = column.group_tuples(rt, true, true, pool)?;
+    if !are(&groups, true, wanted) {
+        return Ok(false);
+    }
+    let groups = Series::String(column).group_tuples(rt, false, false, pool)?;
+    Ok(are(&groups, false, wanted))
+}
+
+// The same of a column of numbers.
+fn numbers_are<T: Threads + Sync>(
+    rt: &T,
+    alloc: Global,
+    pool: &Pool,
+    values: &[Option<i64>],
+    wanted: &[Wanted<'_>],
+) -> PolarsResult<bool>
+    requires row_type { IsSync T.row }
+    requires few { length values.now < 2 ^ 32 }
+{
+    let column = numbers(alloc, values)?;
+    let groups = column.group_tuples(rt, true, true, pool)?;
+    if !are(&groups, true, wanted) {
+        return Ok(false);
+    }
+    let groups = Series::Int64(column).group_tuples(rt, false, false, pool)?;
+    Ok(are(&groups, false, wanted))
+}
+
+// Columns of each type.
 fn group_columns<T: Abort + Threads + Sync>(rt: &T, alloc: Global, pool: &Pool) -> PolarsResult<()>
     requires row_type { IsSync T.row }
 {
-    let none = texts(alloc, &[])?.group_tuples(rt, true, true, pool)?;
-    assert!(rt; are(&none, true, &[]));
-    let column = texts(alloc, &[Some("b"), None, Some("a"), Some("b"), None])?;
-    let groups = column.group_tuples(rt, true, true, pool)?;
-    assert!(rt; are(&groups, true, &[(0, &[0, 3]), (1, &[1, 4]), (2, &[2])]));
-    let groups = column.group_tuples(rt, false, false, pool)?;
-    assert!(rt; are(&groups, false, &[(0, &[0, 3]), (1, &[1, 4]), (2, &[2])]));
-    let column = Series::String(texts(alloc, &[None, Some(""), None])?);
-    let groups = column.group_tuples(rt, true, true, pool)?;
-    assert!(rt; are(&groups, true, &[(0, &[0, 2]), (1, &[1])]));
-    let column = Series::Int64(numbers(alloc, &[Some(-3), None, Some(-3), None])?);
-    let groups = column.group_tuples(rt, true, true, pool)?;
-    assert!(rt; are(&groups, true, &[(0, &[0, 2]), (1, &[1, 3])]));
+    assert!(rt; texts_are(rt, alloc, pool, &[], &[])?);
+    let values = [Some("b"), None, Some("a"), Some("b"), None];
+    assert!(rt;
+        texts_are(
+            rt,
+            alloc,
+            pool,
+            &values,
+            &[(0, &[0, 3]), (1, &[1, 4]), (2, &[2])]
+        )?
+    );
+    let values = [None, Some(""), None];
+    assert!(rt; texts_are(rt, alloc, pool, &values, &[(0, &[0, 2]), (1, &[1])])?);
+    let values = [Some(-3), None, Some(-3), None];
+    assert!(rt; numbers_are(rt, alloc, pool, &values, &[(0, &[0, 2]), (1, &[1, 3])])?);
     let name = PlSmallStr::from_str(alloc, "key")?;
     let column = UInt32Chunked::from_slice(alloc, name, &[7, 8, 7])?;
     let groups = column.group_tuples(rt, true, true, pool)?;
