@@ -4,6 +4,7 @@ pub mod FoldingLemmas
 pub mod GroupingLemmas
 pub mod HeadLemmas
 pub mod HeaderLemmas
+pub mod PlainLemmas
 pub mod PushLemmas
 pub mod ReadingLemmas
 pub mod RecordLemmas

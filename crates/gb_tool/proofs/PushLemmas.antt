@@ -38,7 +38,7 @@ field_some [] i lt e = omega (arith, lt)
 field_some (f ∷ fields) zero lt e = cc
 field_some (f ∷ fields) (suc i) lt e = field_some fields i (omega (arith, lt)) e
 
-ascii_take : (n : ℕ) (bytes : List ℕ) → IsAscii bytes → IsAscii (take n bytes)
+pub ascii_take : (n : ℕ) (bytes : List ℕ) → IsAscii bytes → IsAscii (take n bytes)
 ascii_take zero bytes h i = omega arith
 ascii_take (suc n) [] h i = omega arith
 ascii_take (suc n) (b ∷ bytes) h zero = h 0
@@ -58,11 +58,11 @@ text_at [] i field h e = cc
 text_at (f ∷ fields) zero field h e = let same : f ≡ field = cc in rw (← same) h.0
 text_at (f ∷ fields) (suc i) field h e = text_at fields i field h.1 e
 
-front_more : (front : Frame) (c : ColumnValue) (o : Option Frame) → option_map (λ cs. front ++ cs) (both_onto (Some c) o) ≡ option_map (λ cs. (front ++ c ∷ []) ++ cs) o
+pub front_more : (front : Frame) (c : ColumnValue) (o : Option Frame) → option_map (λ cs. front ++ cs) (both_onto (Some c) o) ≡ option_map (λ cs. (front ++ c ∷ []) ++ cs) o
 front_more front c None = refl
 front_more front c (Some cs) = ap (λ f. Some f) (sym (append_assoc front (c ∷ []) cs))
 
-no_front : (o : Option Frame) → o ≡ option_map (λ cs. [] ++ cs) o
+pub no_front : (o : Option Frame) → o ≡ option_map (λ cs. [] ++ cs) o
 no_front None = refl
 no_front (Some cs) = refl
 

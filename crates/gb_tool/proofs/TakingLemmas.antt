@@ -46,7 +46,7 @@ pub record IsTaking (null_word bytes : List ℕ) (columns : List Series) (reader
   pub reading : IsReading null_word bytes (map value_of columns) reader.state left
   pub typed : All IsTyped columns
 
-room_of : (columns : List Series) → AllByRecursion HasRoom (map value_of columns) → AllByRecursion (λ column. HasRoom (value_of column)) columns
+pub room_of : (columns : List Series) → AllByRecursion HasRoom (map value_of columns) → AllByRecursion (λ column. HasRoom (value_of column)) columns
 room_of [] h = tt
 room_of (column ∷ columns) h = (h.0, room_of columns h.1)
 

@@ -2,6 +2,7 @@ mod cell;
 mod column;
 mod head;
 mod header;
+mod plain;
 #[cfg(test)]
 mod tests;
 
@@ -14,11 +15,12 @@ ghost use Rattle.gb_tool.specs.Table.{IsRefusedTable};
 use crate::status::{TableError, TableFault};
 use crate::table::column::push_record;
 use crate::table::header::columns_of_header;
+use crate::table::plain::plain_table;
 use csv::{ByteRecord, ReaderBuilder};
 use gb_cols::error::PolarsError;
 use gb_series::frame::DataFrame;
 use gb_series::series::Series;
-use std::alloc::Global;
+use std::alloc::{AllocError, Global};
 
 // What is answered of every fault: its place is not told today.
 const BAD_TABLE: TableError = TableError::Fault(TableFault::BadCell(0, 0));
@@ -31,6 +33,17 @@ impl From<csv::Error> for TableError {
 
     // The bytes are there, so that only memory can lack.
     fn from(_: csv::Error) -> TableError {
+        TableError::NoMemory
+    }
+}
+
+impl From<AllocError> for TableError {
+    ghost use Rattle.std.specs.Prelude.{◌≡◌};
+    ghost use Rattle.gb_tool.specs.declared.status.TableError.TheVariants.{NoMemory};
+
+    ghost from_gives = { λ _ e. e ≡ NoMemory };
+
+    fn from(_: AllocError) -> TableError {
         TableError::NoMemory
     }
 }
@@ -62,6 +75,18 @@ fn frame_of(columns: Vec<Series>) -> Result<DataFrame, TableError>
 
 /// The frame that the bytes are, by typed CSV. Reading ends at the first fault.
 pub fn table_of(alloc: Global, bytes: &[u8], null_word: &str) -> Result<DataFrame, TableError>
+    requires { length bytes.now ≤ 4294967295 }
+    ensures ok { IfOk result (λ frame. readable_table bytes.now null_word.now ≡ Some frame) }
+    ensures err { IfErr result (λ e. IsRefusedTable e (readable_table bytes.now null_word.now)) }
+{
+    if let Some(frame) = plain_table(alloc, bytes, null_word)? {
+        return Ok(frame);
+    }
+    csv_table(alloc, bytes, null_word)
+}
+
+// The frame that the bytes are, read by `csv`.
+fn csv_table(alloc: Global, bytes: &[u8], null_word: &str) -> Result<DataFrame, TableError>
     requires { length bytes.now ≤ 4294967295 }
     ensures ok { IfOk result (λ frame. readable_table bytes.now null_word.now ≡ Some frame) }
     ensures err { IfErr result (λ e. IsRefusedTable e (readable_table bytes.now null_word.now)) }

@@ -86,9 +86,9 @@ fn push_text(
     Ok(true)
 }
 
-// Puts a cell at the end of a column, and says whether it reads. Its error is small, since this is
-// called for each cell.
-fn push_cell(
+/// Puts a cell at the end of a column, and says whether it reads. Its error is small, since this is
+/// called for each cell.
+pub fn push_cell(
     column: &mut Series,
     cell: &[u8],
     known: bool,

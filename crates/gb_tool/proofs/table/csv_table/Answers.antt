@@ -3,7 +3,7 @@ use Rattle.std.proofs.lemmas.Result.{IfOk-weaker}
 use Rattle.std.proofs.lemmas.List.{take_at}
 use Rattle.csv.specs.Records.{fields_of}
 use Rattle.gb_tool.proofs.TakingLemmas.{plain_made, taking_none, taking_no_columns, taking_header, taking_room, taking_frame, taking_all, taking_bad, taking_more}
-use Rattle.gb_tool.proofs.table.table_of.Goals as goal
+use Rattle.gb_tool.proofs.table.csv_table.Goals as goal
 
 pub returns-then-not-found-clause-err : goal.returns-then-not-found-clause-err
 returns-then-not-found-clause-err c =

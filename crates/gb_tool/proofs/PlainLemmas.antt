@@ -1,0 +1,166 @@
+-- Cells and records of plain text, as csv's machine reads them.
+use Rattle.std.proofs.Common.{◌≡◌, ◌≢◌, ◌==◌, ℕ, ◌+◌, ◌<◌, ◌≤◌, Bool, true, false, List, [], ◌∷◌, ◌++◌, length, get_or, get_or-drop, set, take, drop, refl, sym, ◌∙◌, ap, append_assoc, arith, Option, Some, None}
+use Rattle.std.specs.Prelude.{option_map}
+use Rattle.std.specs.Str.{IsAscii}
+use Rattle.std.proofs.lemmas.Bool.{ne_eqb}
+use Rattle.std.proofs.lemmas.List.{append-nil, take_all, drop_all, drop_more, take_more, take_more_set, drop-set-lt}
+use Rattle.csv.specs.declared.parser.State.{State}
+use Rattle.csv.specs.declared.parser.State.TheVariants as st
+use Rattle.csv.specs.Machine.{next_record}
+use Rattle.csv.specs.Reading.{Reached, default_config, strip_bom}
+use Rattle.csv.proofs.ReadFacts.{reached-more}
+use Rattle.gb_defs.specs.Column.{ColumnValue, Frame}
+use Rattle.gb_defs.specs.Table.{readable_table}
+use Rattle.gb_tool.specs.Plain.{IsCut, TakesLine}
+use Rattle.gb_tool.specs.Table.{both_onto, column_with, columns_of_header, columns_with}
+use Rattle.gb_tool.proofs.PushLemmas.{ascii_take, front_more, no_front}
+use Rattle.gb_tool.proofs.ReadingLemmas.{IsReading, reading_end, reading_header, reading_more}
+
+-- ---- one byte
+
+-- the state in a cell, once it has a byte
+abbrev pub state_at : Bool → State
+state_at true = st.InField
+state_at false = st.StartField
+
+module _ (fields : List (List ℕ)) (field : List ℕ) where
+  next_joins : (begun : Bool) (c : ℕ) (rest : List ℕ) → (c == 44) ≡ false → (c == 13) ≡ false → (c == 10) ≡ false → (c == 34) ≡ false
+      → next_record default_config (state_at begun) fields field (c ∷ rest) ≡ next_record default_config st.InField fields (field ++ c ∷ []) rest
+  unfolding next_record
+  next_joins true c rest e f g h = rw (e, f, g)
+  next_joins false c rest e f g h = rw (h, e, f, g)
+
+  next_comma : (begun : Bool) (rest : List ℕ) → next_record default_config (state_at begun) fields field (44 ∷ rest) ≡ next_record default_config st.StartField (fields ++ field ∷ []) [] rest
+  unfolding next_record
+  next_comma true rest = refl
+  next_comma false rest = refl
+
+  next_feed : (begun : Bool) (rest : List ℕ) → next_record default_config (state_at begun) fields field (10 ∷ rest) ≡ Some (fields ++ field ∷ [], st.StartRecord, rest)
+  unfolding next_record
+  next_feed true rest = refl
+  next_feed false rest = refl
+
+  next_end : (begun : Bool) → next_record default_config (state_at begun) fields field [] ≡ Some (fields ++ field ∷ [], st.StartRecord, [])
+  unfolding next_record
+  next_end true = refl
+  next_end false = refl
+
+begins : (text : List ℕ) → 0 < length text → get_or text 0 0 ≢ 10 → get_or text 0 0 ≢ 13
+    → next_record default_config st.StartRecord [] [] text ≡ next_record default_config st.StartField [] [] text
+unfolding next_record
+begins [] some e f = absurd (omega (arith, some))
+begins (c ∷ text) some e f = rw (ne_eqb c 10 e, ne_eqb c 13 f)
+
+ends : next_record default_config st.StartRecord [] [] [] ≡ None
+unfolding next_record
+ends = refl
+
+none_left : (text : List ℕ) → length text ≡ 0 → next_record default_config st.StartRecord [] [] text ≡ None
+none_left [] none = ends
+none_left (c ∷ text) none = absurd (omega (arith, none))
+
+no_mark : (text : List ℕ) → get_or text 0 0 ≢ 239 → strip_bom text ≡ text
+unfolding strip_bom
+no_mark [] e = refl
+no_mark (a ∷ []) e = refl
+no_mark (a ∷ b ∷ []) e = refl
+no_mark (a ∷ b ∷ c ∷ rest) e = rw (ne_eqb a 239 e)
+
+-- ---- a cell
+
+-- the bytes before the i-th are those of the first cell so far
+pub record IsScanning (text : List ℕ) (i : ℕ) : Type 0 where
+  pub begun : Bool
+  pub so_far : (fields : List (List ℕ)) → next_record default_config st.StartField fields [] text ≡ next_record default_config (state_at begun) fields (take i text) (drop i text)
+
+pub scan_none : (text : List ℕ) → IsScanning text 0
+scan_none text = record { begun = false; so_far = λ fields. refl }
+
+module _ (text : List ℕ) (i : ℕ) (s : IsScanning text i) where
+  module _ (lt : i < length text) where
+    at_hand : (fields : List (List ℕ)) (c : ℕ) → get_or text i 0 ≡ c
+        → next_record default_config st.StartField fields [] text ≡ next_record default_config (state_at s.begun) fields (take i text) (c ∷ drop (i + 1) text)
+    at_hand fields c e =
+        s.so_far fields ∙ ap (next_record default_config (state_at s.begun) fields (take i text)) (drop_more text i 0 lt ∙ ap (λ b. b ∷ drop (i + 1) text) e)
+
+    pub scan_more : get_or text i 0 ≢ 44 → get_or text i 0 ≢ 13 → get_or text i 0 ≢ 10 → get_or text i 0 ≢ 34 → IsScanning text (i + 1)
+    scan_more e f g h = record {
+      begun = true;
+      so_far = λ fields.
+          at_hand fields (get_or text i 0) refl ∙ next_joins fields (take i text) s.begun (get_or text i 0) (drop (i + 1) text) (ne_eqb _ 44 e) (ne_eqb _ 13 f) (ne_eqb _ 10 g) (ne_eqb _ 34 h)
+          ∙ ap (λ field. next_record default_config st.InField fields field (drop (i + 1) text)) (sym (take_more text i 0 lt));
+    }
+
+    pub cut_comma : get_or text i 0 ≡ 44 → IsCut text (take i text) (drop (i + 1) text) false
+    cut_comma e = record {
+      count = i;
+      cell_is = refl;
+      rest_is = refl;
+      reads = λ fields. at_hand fields 44 e ∙ next_comma fields (take i text) s.begun (drop (i + 1) text);
+    }
+
+    pub cut_feed : get_or text i 0 ≡ 10 → IsCut text (take i text) (drop (i + 1) text) true
+    cut_feed e = record {
+      count = i;
+      cell_is = refl;
+      rest_is = refl;
+      reads = λ fields. at_hand fields 10 e ∙ next_feed fields (take i text) s.begun (drop (i + 1) text);
+    }
+
+  pub cut_end : length text ≤ i → IsCut text text [] true
+  cut_end short = record {
+    count = i;
+    cell_is = sym (take_all i text short);
+    rest_is = sym (drop_all (i + 1) text (omega (arith, short)));
+    reads = λ fields. s.so_far fields ∙ (rw (take_all i text short, drop_all i text short) (next_end fields text s.begun));
+  }
+
+module _ (text cell rest : List ℕ) (last : Bool) (c : IsCut text cell rest last) (ascii : IsAscii text) where
+  pub cell_ascii : IsAscii cell
+  cell_ascii = rw c.cell_is (ascii_take c.count text ascii)
+
+  pub rest_ascii : IsAscii rest
+  rest_ascii = rw c.rest_is (λ i. rw (get_or-drop (c.count + 1) text i 0) (ascii (c.count + 1 + i)))
+
+-- ---- the cells of a record, one column after the other
+
+module _ (null_word : List ℕ) (initial : Frame) where
+  -- the columns before the i-th have these cells, whatever cells follow
+  pub record IsPassing (done : List (List ℕ)) (i : ℕ) (now : Frame) : Type 0 where
+    pub so_far : (more : List (List ℕ)) → columns_with null_word initial (done ++ more) ≡ option_map (λ cs. take i now ++ cs) (columns_with null_word (drop i now) more)
+
+  pub passing_none : IsPassing [] 0 initial
+  passing_none = record { so_far = λ more. no_front (columns_with null_word initial more) }
+
+  module _ (done : List (List ℕ)) (i : ℕ) (now : Frame) (s : IsPassing done i now) where
+    pub passing_more : (c d : ColumnValue) (cell : List ℕ) → i < length now → c ≡ get_or now i c → column_with null_word c cell ≡ Some d → IsPassing (done ++ cell ∷ []) (i + 1) (set now i d)
+    passing_more c d cell lt at e = record {
+      so_far = λ more.
+          let rest = columns_with null_word (drop (i + 1) now) more in
+          let here : columns_with null_word (drop i now) (cell ∷ more) ≡ both_onto (column_with null_word c cell) rest = rw (drop_more now i c lt, ← at) in
+          let one = here ∙ ap (λ o. both_onto o rest) e in
+          let moved = ap (columns_with null_word initial) (append_assoc done (cell ∷ []) more) ∙ s.so_far (cell ∷ more) ∙ ap (option_map (λ cs. take i now ++ cs)) one ∙ front_more (take i now) d rest in
+          rw (take_more_set now i d lt, drop-set-lt (i + 1) now i d (omega arith)) moved;
+    }
+
+    pub passing_all : length now ≤ i → columns_with null_word initial done ≡ Some now
+    passing_all few = ap (columns_with null_word initial) (sym (append-nil done)) ∙ s.so_far [] ∙ (rw (drop_all i now few, take_all i now few, append-nil))
+
+-- ---- the records of a table
+
+module _ (null_word bytes : List ℕ) where
+  pub plain_start : (header : List (List ℕ)) (rest : List ℕ) (frame : Frame) → 0 < length bytes → get_or bytes 0 0 ≢ 239 → get_or bytes 0 0 ≢ 10 → get_or bytes 0 0 ≢ 13
+      → next_record default_config st.StartField [] [] bytes ≡ Some (header, st.StartRecord, rest) → columns_of_header header ≡ Some frame → IsReading null_word bytes frame st.StartRecord rest
+  unfolding Reached
+  plain_start header rest frame some mark feed return e made =
+      let read : next_record default_config st.StartRecord [] [] (strip_bom bytes) ≡ Some (header, st.StartRecord, rest) = rw (no_mark bytes mark) (begins bytes some feed return ∙ e) in
+      reading_header null_word bytes header frame st.StartRecord rest ((header, st.StartRecord, rest), read, refl, (refl, refl)) made
+
+  module _ (frame : Frame) (left : List ℕ) (now : IsReading null_word bytes frame st.StartRecord left) where
+    pub plain_more : (frame' : Frame) (rest : List ℕ) → 0 < length left → get_or left 0 0 ≢ 10 → get_or left 0 0 ≢ 13 → TakesLine null_word frame frame' left rest → IsReading null_word bytes frame' st.StartRecord rest
+    plain_more frame' rest some feed return t =
+        let reached = reached-more default_config st.StartRecord st.StartRecord (strip_bom bytes) left (now.header ∷ now.rows) (t.fields, st.StartRecord, rest) now.reached (begins left some feed return ∙ t.reads) in
+        reading_more null_word bytes frame st.StartRecord left now t.fields frame' st.StartRecord rest reached t.takes
+
+    pub plain_end : length left ≡ 0 → readable_table bytes null_word ≡ Some frame
+    plain_end none = reading_end null_word bytes frame st.StartRecord left now (none_left left none)
