@@ -1,14 +1,15 @@
 -- What a cell reads as.
-use Rattle.std.proofs.Common.{◌≡◌, ◌==◌, ℕ, ◌+◌, ◌*◌, ◌^◌, ◌<◌, ◌≤◌, nat_lt, Bool, true, false, cond, not, ◌&&◌, List, [], ◌∷◌, length, get_or, drop, refl, sym, ◌∙◌, ap, arith, Option, Some, None, Result, Ok, Err}
+use Rattle.std.proofs.Common.{◌≡◌, ◌==◌, ℕ, ◌+◌, ◌*◌, ◌^◌, ◌<◌, ◌≤◌, nat_lt, suc, add-one, Bool, true, false, cond, not, ◌&&◌, List, [], ◌∷◌, length, get_or, drop, refl, sym, ◌∙◌, ap, arith, Option, Some, None, Result, Ok, Err}
 use Rattle.std.specs.Prelude.{option_map}
 use Rattle.std.specs.Bool.{Decides}
-use Rattle.std.specs.Char.{digit_value}
+use Rattle.std.specs.Char.{digit_value, is_ascii_digit}
 use Rattle.std.specs.Int.{w64}
 use Rattle.std.specs.Result.{MatchResult, result_ok}
 use Rattle.std.specs.Str.{IsUtf8, is_utf8, all_ascii_digits, bytes_eq}
 use Rattle.std.specs.Str.Parse.{IsNumeral, digits_value, digits_value_after}
 use Rattle.std.proofs.lemmas.Bool.{le-ltb, lt-ltb, ne_eqb, and_parts, and_from, false_from_ne_true, not_from_false}
 use Rattle.std.proofs.lemmas.List.{drop_more, drop_all}
+use Rattle.std.proofs.Math.Nat.{pow-le-pow_right, pow-suc}
 use Rattle.std.proofs.lemmas.Str.{IsUtf8-from_is_utf8, is_utf8-from_IsUtf8}
 use Rattle.std.proofs.lemmas.Str.Parse.{IsNumeralModel, numerals_by_value, tells_all_ascii_digits}
 use denote.Ref.{Bor}
@@ -53,10 +54,26 @@ module _ (ds : List ℕ) (i n : ℕ) (lt : i < length ds) (so_far : magnitude_af
       let value = n * 10 + digit_value (get_or ds i 0) in
       sym (at_hand ∙ not_below (all_ascii_digits (get_or ds i 0 ∷ drop (i + 1) ds)) (digits_value_after 10 value (drop (i + 1) ds)) (omega (arith, h, grows (drop (i + 1) ds) value)))
 
+  pub digit_more : is_ascii_digit (get_or ds i 0) ≡ true → magnitude_after (n * 10 + digit_value (get_or ds i 0)) (drop (i + 1) ds) ≡ magnitude_after 0 ds
+  digit_more h = sym (at_hand ∙ (rw h))
+
 pub digits_end : (ds : List ℕ) (i n : ℕ) → length ds ≤ i → n < 2 ^ 64 → magnitude_after n (drop i ds) ≡ magnitude_after 0 ds → Some n ≡ magnitude_after 0 ds
 digits_end ds i n short fits so_far =
     let end : magnitude_after n [] ≡ Some n = rw (lt-ltb n (2 ^ 64) fits) in
     sym end ∙ ap (magnitude_after n) (sym (drop_all i ds short)) ∙ so_far
+
+-- ---- at most 19 digits
+
+-- the value of i digits
+module _ (i n : ℕ) (below : n < 10 ^ i) where
+  pub short_room : i < 19 → n * 10 + 9 < 2 ^ 64
+  short_room lt = let most : 10 ^ i ≤ 10 ^ 18 = pow-le-pow_right {n = 10} (omega arith) {i = i} {j = 18} (omega (arith, lt)) in omega (arith, below, most)
+
+  pub short_fits : i ≤ 19 → n < 2 ^ 64
+  short_fits le = let most : 10 ^ i ≤ 10 ^ 19 = pow-le-pow_right {n = 10} (omega arith) {i = i} {j = 19} le in omega (arith, below, most)
+
+  pub short_more : (digit : ℕ) → digit ≤ 9 → n * 10 + digit < 10 ^ (i + 1)
+  short_more digit le = rw add-one (let ten : 10 ^ suc i ≡ 10 ^ i * 10 = pow-suc 10 i in omega (arith, below, le, ten))
 
 -- ---- a cell as text
 

@@ -1,4 +1,4 @@
-ghost use Rattle.std.specs.Prelude.{◌≡◌, ◌^◌, ◌&&◌, nat_lt, option_map, Some, None, if◌then◌else◌};
+ghost use Rattle.std.specs.Prelude.{◌≡◌, ◌≤◌, ◌^◌, ◌&&◌, length, nat_lt, option_map, Some, None, if◌then◌else◌};
 ghost use Rattle.std.specs.Int.{w64};
 ghost use Rattle.std.specs.Str.{all_ascii_digits};
 ghost use Rattle.std.specs.Str.Parse.{digits_value, starts_with_minus, without_leading_sign};
@@ -21,8 +21,23 @@ fn without_sign(cell: &[u8]) -> (bool, &[u8])
     (false, cell)
 }
 
+// The number that at most 19 digits write, None where a byte is no digit.
+fn short_magnitude(digits: &[u8]) -> Option<u64>
+    requires { length digits.now ≤ 19 }
+    ensures { result ≡ (if all_ascii_digits digits.now && nat_lt (digits_value 10 digits.now) (2 ^ 64) then Some (digits_value 10 digits.now) else None) }
+{
+    let mut value: u64 = 0;
+    for digit in digits {
+        if !digit.is_ascii_digit() {
+            return None;
+        }
+        value = value * 10 + u64::from(*digit - b'0');
+    }
+    Some(value)
+}
+
 // The number that digits write, None where a byte is no digit or 64 bits are too few.
-fn magnitude_of(digits: &[u8]) -> Option<u64>
+fn long_magnitude(digits: &[u8]) -> Option<u64>
     ensures { result ≡ (if all_ascii_digits digits.now && nat_lt (digits_value 10 digits.now) (2 ^ 64) then Some (digits_value 10 digits.now) else None) }
 {
     let mut value: u64 = 0;
@@ -35,6 +50,16 @@ fn magnitude_of(digits: &[u8]) -> Option<u64>
             .checked_add(u64::from(*digit - b'0'))?;
     }
     Some(value)
+}
+
+// The same. Few digits need no look at whether they fit.
+fn magnitude_of(digits: &[u8]) -> Option<u64>
+    ensures { result ≡ (if all_ascii_digits digits.now && nat_lt (digits_value 10 digits.now) (2 ^ 64) then Some (digits_value 10 digits.now) else None) }
+{
+    if digits.len() <= 19 {
+        return short_magnitude(digits);
+    }
+    long_magnitude(digits)
 }
 
 /// The number that a cell is.

@@ -88,6 +88,7 @@ fn push_text(
 
 /// Puts a cell at the end of a column, and says whether it reads. Its error is small, since this is
 /// called for each cell.
+#[inline(always)]
 pub fn push_cell(
     column: &mut Series,
     cell: &[u8],

@@ -2,7 +2,7 @@ use Rattle.std.proofs.Common.{◌≡◌, ◌∙◌, get_or, arith}
 use Rattle.std.specs.Char.{digit_value}
 use Rattle.std.proofs.lemmas.Bool.Decides.{nat_tests}
 use Rattle.gb_tool.proofs.CellLemmas.{digits_end, too_large}
-use Rattle.gb_tool.proofs.table.cell.magnitude_of.Goals as goal
+use Rattle.gb_tool.proofs.table.cell.long_magnitude.Goals as goal
 
 pub returns-in_err-checked_mul : goal.returns-in_err-checked_mul
 returns-in_err-checked_mul c =
