@@ -33,6 +33,7 @@ fn text_of(cell: &[u8], known: bool) -> Option<&str>
 }
 
 // Puts a cell at the end of a column of numbers, and says whether it reads as one.
+#[inline(always)]
 fn push_number(column: &mut Int64Chunked, cell: &[u8], null_word: &str) -> Result<bool, AllocError>
     requires dtype { column.old.dtype ≡ int64 }
     requires room { HasRoom column.old }
@@ -57,6 +58,7 @@ fn push_number(column: &mut Int64Chunked, cell: &[u8], null_word: &str) -> Resul
 }
 
 // Puts a cell at the end of a column of texts, and says whether it reads as one.
+#[inline(always)]
 fn push_text(
     column: &mut StringChunked,
     cell: &[u8],
