@@ -1,5 +1,5 @@
 -- Rows that ascend: all rows, those that pass a test, and one more at their end.
-use Rattle.std.proofs.Common.{◌≡◌, ℕ, zero, suc, ◌+◌, ◌<◌, ◌≤◌, Bool, List, [], ◌∷◌, length, get_or, map, filter, take, drop, All, refl, ◌∙◌, ap, arith, eqb, inl, inr, zero-add}
+use Rattle.std.proofs.Common.{◌≡◌, ℕ, zero, suc, ◌+◌, ◌<◌, ◌≤◌, Bool, List, [], ◌∷◌, ◌++◌, length, get_or, map, filter, take, drop, All, refl, ◌∙◌, ap, arith, eqb, inl, inr, zero-add}
 use Rattle.std.specs.List.{range_with_len, AllByRecursion}
 use Rattle.std.specs.List.Sorted.{IsStrictlyIncreasing}
 use Rattle.std.proofs.lemmas.List.{drop-map, get_or-map, length-map}
@@ -160,3 +160,14 @@ module _ {count : ℕ} {row_hash : ℕ → ℕ} {hashes : List ℕ} (lists : Lis
     members = rw (is, ← drop-map (λ (list : SmallVec ℕ). list.items) n lists) (All-drop (AreMembers count) n (lists_of lists) listed.members);
     hashed = listed.hashed;
   }
+
+-- what a function gives over two ranges that follow each other
+pub ranges_joined : (f : ℕ → ℕ) (a m n : ℕ) → map f (range_with_len a m) ++ map f (range_with_len (a + m) n) ≡ map f (range_with_len a (m + n))
+ranges_joined f a zero n =
+    let from : a + 0 ≡ a = omega arith in
+    let all : 0 + n ≡ n = omega arith in
+    rw (from, all)
+ranges_joined f a (suc m) n =
+    let from : a + suc m ≡ a + 1 + m = omega arith in
+    let all : suc m + n ≡ suc (m + n) = omega arith in
+    rw (from, all) (ap (λ xs. f a ∷ xs) (ranges_joined f (a + 1) m n))

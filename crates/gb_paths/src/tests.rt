@@ -148,6 +148,21 @@ fn group_in_partitions<T: Abort + Threads + Sync>(
     Ok(())
 }
 
+// Whether rows enough for each worker to hash some have two groups.
+fn many_rows_are_two<T: Threads + Sync>(rt: &T, alloc: Global, pool: &Pool) -> PolarsResult<bool>
+    requires row_type { IsSync T.row }
+{
+    let mut keys = vec![in alloc; 5i64; 10_000]?;
+    keys[9_999] = 6;
+    let mixer = SeedMixer::new(pool.seed());
+    let groups = group_by_threaded_slice(rt, alloc, &keys, mixer, 3, true, pool, &FreeGate)?;
+    let mut rows = 0usize;
+    for (_, list) in groups.unwrap_idx().iter() {
+        rows = rows.wrapping_add(list.len());
+    }
+    Ok(groups.len() == 2 && rows == 10_000)
+}
+
 // Whether a column of texts has these groups by either path.
 fn texts_are<T: Threads + Sync>(
     rt: &T,
@@ -229,6 +244,7 @@ fn rows_with_one_key_are_a_group(rt: HostRuntime) -> Result<(), Fail> {
     for pool in &pools {
         group_in_partitions(&rt, alloc, pool)?;
         group_columns(&rt, alloc, pool)?;
+        assert!(rt; many_rows_are_two(&rt, alloc, pool)?);
     }
     Ok(())
 }

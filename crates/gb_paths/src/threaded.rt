@@ -18,7 +18,7 @@ ghost use Rattle.gb_paths.specs.Tuples.{number_slots};
 
 use crate::partitions::partition_rows;
 use crate::row_groups::group_members;
-use crate::row_hashes::hash_rows;
+use crate::row_hashes::hash_rows_par;
 use gb_cols::device::Gate;
 use gb_cols::error::PolarsResult;
 use gb_cols::pool::Pool;
@@ -53,7 +53,7 @@ pub fn group_by_threaded_iter<T: Threads + Sync, R: KeyRows, G: Gate + Sync>(
     ensures ok { IfOk result (λ g. groups_of g ≡ record { pairs = threaded_groups (same_slot_at (R.slot rows.now)) (R.row_hash rows.now) n_partitions sorted (rows_below (R.row_count rows.now)); form = Idx; flagged = sorted }) }
     ensures err { IfErr result IsNoMemory }
 {
-    let hashes = hash_rows(alloc, rows)?;
+    let hashes = hash_rows_par(rt, alloc, rows, pool)?;
     let members = partition_rows(alloc, hashes.as_slice(), n_partitions)?;
     let parts = deal_partitions(rt, alloc, rows, &members, &hashes, pool, gate)?;
     let mut groups = GroupsIdx::from_parts(rt, alloc, parts, pool)?;

@@ -14,17 +14,17 @@ use Rattle.gb_paths.proofs.threaded.group_by_threaded_iter.Goals.{then-sorted+in
 pub partition_rows-requires-clause-few : goal.partition_rows-requires-clause-few
 partition_rows-requires-clause-few g c =
     let count = g.R.KeyRows.row_count c.args.rows.now in
-    let long = ap length c.as_slice.ensures.value ∙ ap length c.in_ok-hashes.ensures ∙ length-map (rows_below count) (g.R.KeyRows.row_hash c.args.rows.now) ∙ length-range_with_len 0 count in
+    let long = ap length c.as_slice.ensures.value ∙ ap length c.in_ok-hashes.ensures.ok ∙ length-map (rows_below count) (g.R.KeyRows.row_hash c.args.rows.now) ∙ length-range_with_len 0 count in
     omega (arith, long, c.requires.few)
 
 pub deal_partitions-requires-clause-listed : goal.deal_partitions-requires-clause-listed
 deal_partitions-requires-clause-listed g c κs within =
     let count = g.R.KeyRows.row_count c.args.rows.now in
-    let long = ap length c.as_slice.ensures.value ∙ ap length c.in_ok-hashes.ensures ∙ length-map (rows_below count) (g.R.KeyRows.row_hash c.args.rows.now) ∙ length-range_with_len 0 count in
+    let long = ap length c.as_slice.ensures.value ∙ ap length c.in_ok-hashes.ensures.ok ∙ length-map (rows_below count) (g.R.KeyRows.row_hash c.args.rows.now) ∙ length-range_with_len 0 count in
     record {
       few = c.requires.few;
       members = rw (c.deref.ensures.value, ← long) c.in_ok-members.ensures.members;
-      hashed = c.deref-2.ensures.value ∙ c.in_ok-hashes.ensures;
+      hashed = c.deref-2.ensures.value ∙ c.in_ok-hashes.ensures.ok;
     }
 
 pub returns-clause-ok : goal.returns-clause-ok
@@ -34,7 +34,7 @@ returns-clause-ok g c =
     let agree = same_slot_at (g.R.KeyRows.slot rows) in
     let hash = g.R.KeyRows.row_hash rows in
     let n = c.args.n_partitions in
-    let hashed = c.as_slice.ensures.value ∙ c.in_ok-hashes.ensures in
+    let hashed = c.as_slice.ensures.value ∙ c.in_ok-hashes.ensures.ok in
     let long : length c.as_slice.result.now ≡ count = ap length hashed ∙ length-map (rows_below count) hash ∙ length-range_with_len 0 count in
     let alike : (i j : ℕ) → i < count → j < count → agree i j ≡ true → hash i ≡ hash j = λ i j low high same.
     (g.met.R.KeyRows g.world.𝓛 g.world.𝓜 g.world.𝓡 ((λ s x. x), (λ x. x), (λ x. x), λ x. x)).hashes_alike rows i j low high ((Decides-slot_eq _ _).0 same) in
