@@ -6,7 +6,7 @@ use Rattle.std.proofs.lemmas.List.{append-nil, append_assoc, length-append, drop
 use Rattle.std.proofs.lemmas.Grind.{flat_map-append}
 use Rattle.gb_defs.specs.Slot.{Slot, Nil, is_nil, slot_at}
 use Rattle.gb_defs.specs.ColumnType.{ColumnType}
-use Rattle.gb_defs.specs.Column.{ColumnValue, SortedFlag, NotSorted, plain_column}
+use Rattle.gb_defs.specs.Column.{ColumnValue, SortedFlag, NotSorted, fresh_column}
 use Rattle.gb_cols.specs.Column.{longer_last, pushed}
 
 longer_last-append : (ns : List ℕ) (m : ℕ) → longer_last (ns ++ m ∷ []) ≡ ns ++ (m + 1) ∷ []
@@ -48,7 +48,7 @@ module _ {A : Type 0} (slots : A → List Slot) where
 
   -- a column of one chunk
   pub view_one : (name : List ℕ) (dtype : ColumnType) (last : A) (ss : List Slot) → slots last ≡ ss →
-      ◌≡◌ {A = ColumnValue} (record { name = name; dtype = dtype; slots = all_slots [] last; chunks = all_lengths [] last; sorted = NotSorted; all_used = false }) (plain_column name dtype ss)
+      ◌≡◌ {A = ColumnValue} (record { name = name; dtype = dtype; slots = all_slots [] last; chunks = all_lengths [] last; sorted = NotSorted; all_used = false }) (fresh_column name dtype ss)
   view_one name dtype last ss e = rw (append-nil (slots last), e)
 
   -- ---- the place of a row, from the i-th chunk on

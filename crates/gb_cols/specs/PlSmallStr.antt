@@ -5,8 +5,8 @@ use Rattle.gb_cols.specs.declared.small_str.PlSmallStr.{PlSmallStr}
 use Rattle.gb_cols.specs.declared.error.PolarsError.{PolarsError}
 use Rattle.gb_cols.specs.declared.error.PolarsError.TheVariants.{NoMemory}
 
-abbrev pub text_of : PlSmallStr → List ℕ
-text_of name = string_bytes name.text
+abbrev pub name_of : PlSmallStr → List ℕ
+name_of name = string_bytes name.text
 
 -- the error is want of memory
 abbrev pub IsNoMemory : PolarsError → Type 0

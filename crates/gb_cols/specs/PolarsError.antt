@@ -5,7 +5,7 @@ use Rattle.gb_cols.specs.declared.error.PolarsError.{PolarsError}
 use Rattle.gb_cols.specs.declared.error.PolarsError.TheVariants.{ComputeError, ShapeMismatch, TooManyRows, ColumnNotFound, InvalidOperation, Duplicate, SchemaMismatch, NoMemory}
 use Rattle.gb_cols.specs.declared.error.Operation.{Operation}
 use Rattle.gb_cols.specs.declared.error.Operation.TheVariants.{Sum, Product, Min, Max, Hash, RowEncoding}
-use Rattle.gb_cols.specs.PlSmallStr.{text_of}
+use Rattle.gb_cols.specs.PlSmallStr.{name_of}
 
 abbrev pub operation_of : Operation → fault.Operation
 operation_of Sum = fault.OfSum
@@ -20,10 +20,10 @@ abbrev pub cause_of : PolarsError → Option fault.Fault
 cause_of ComputeError = Some fault.ComputeError
 cause_of ShapeMismatch = Some fault.ShapeMismatch
 cause_of (TooManyRows rows) = Some (fault.TooManyRows rows)
-cause_of (ColumnNotFound name) = Some (fault.ColumnNotFound (text_of name))
-cause_of (InvalidOperation operation name) = Some (fault.InvalidOperation (operation_of operation) (text_of name))
-cause_of (Duplicate name) = Some (fault.Duplicate (text_of name))
-cause_of (SchemaMismatch name) = Some (fault.SchemaMismatch (text_of name))
+cause_of (ColumnNotFound name) = Some (fault.ColumnNotFound (name_of name))
+cause_of (InvalidOperation operation name) = Some (fault.InvalidOperation (operation_of operation) (name_of name))
+cause_of (Duplicate name) = Some (fault.Duplicate (name_of name))
+cause_of (SchemaMismatch name) = Some (fault.SchemaMismatch (name_of name))
 cause_of NoMemory = None
 
 abbrev pub IsCause : Option fault.Fault → Option fault.Fault → Type 0

@@ -38,29 +38,29 @@ impl<A: Array> Model for ChunkedArray<A> {
     ghost use Rattle.std.specs.List.{flat_map};
     ghost use Rattle.gb_defs.specs.Column.{ColumnValue, IsFlagTrue, column_code};
     ghost use Rattle.gb_cols.specs.Sorted.{flag_of};
-    ghost use Rattle.gb_cols.specs.PlSmallStr.{text_of};
+    ghost use Rattle.gb_cols.specs.PlSmallStr.{name_of};
 
     ghost Value = { ColumnValue };
 
     ghost coded = { column_code };
 
-    ghost view = { λ c. record { name = text_of c.name; dtype = A.dtype; slots = flat_map A.slots (c.earlier.items ++ c.last ∷ []); chunks = map (λ a. length (A.slots a)) (c.earlier.items ++ c.last ∷ []); sorted = flag_of c.sorted; all_used = false } };
+    ghost view = { λ c. record { name = name_of c.name; dtype = A.dtype; slots = flat_map A.slots (c.earlier.items ++ c.last ∷ []); chunks = map (λ a. length (A.slots a)) (c.earlier.items ++ c.last ∷ []); sorted = flag_of c.sorted; all_used = false } };
 
     ghost invariant = { λ c. IsFlagTrue (flag_of c.sorted) A.dtype (flat_map A.slots (c.earlier.items ++ c.last ∷ [])) × (length (flat_map A.slots (c.earlier.items ++ c.last ∷ [])) < 2 ^ 63) };
 }
 
 impl<A: Array> ChunkedArray<A> {
-    ghost use Rattle.gb_cols.specs.PlSmallStr.{text_of, IsNoMemory};
+    ghost use Rattle.gb_cols.specs.PlSmallStr.{name_of, IsNoMemory};
     ghost use Rattle.gb_cols.specs.DataType.{type_of};
     ghost use Rattle.gb_cols.specs.Column.{appended, pushed};
     ghost use Rattle.gb_cols.specs.Sorted.{flag_of};
     ghost use Rattle.std.specs.List.{count_by};
     ghost use Rattle.gb_defs.specs.Slot.{is_nil};
-    ghost use Rattle.gb_defs.specs.Column.{plain_column};
+    ghost use Rattle.gb_defs.specs.Column.{fresh_column};
 
     /// No slots.
     pub fn new(alloc: Global, name: PlSmallStr) -> Self
-        ensures { result ≡ plain_column (text_of name) A.dtype [] }
+        ensures { result ≡ fresh_column (name_of name) A.dtype [] }
     {
         ChunkedArray {
             name,
@@ -73,7 +73,7 @@ impl<A: Array> ChunkedArray<A> {
     // The column of one chunk.
     fn from_chunk(alloc: Global, name: PlSmallStr, chunk: A) -> Self
         requires { length (A.slots chunk) < 2 ^ 63 }
-        ensures { result ≡ plain_column (text_of name) A.dtype (A.slots chunk) }
+        ensures { result ≡ fresh_column (name_of name) A.dtype (A.slots chunk) }
     {
         ChunkedArray {
             name,
@@ -84,7 +84,7 @@ impl<A: Array> ChunkedArray<A> {
     }
 
     pub fn name(&self) -> &PlSmallStr
-        ensures name { text_of result.now ≡ self.now.name }
+        ensures name { name_of result.now ≡ self.now.name }
         ensures typed { self.now.dtype ≡ A.dtype }
     {
         &self.name
@@ -142,7 +142,7 @@ impl<A: Array> ChunkedArray<A> {
     }
 
     pub fn rename(&mut self, name: PlSmallStr)
-        ensures { self.new ≡ record self.old { name = text_of name } }
+        ensures { self.new ≡ record self.old { name = name_of name } }
     {
         self.name = name;
     }
@@ -196,7 +196,7 @@ impl<A: Array> ChunkedArray<A> {
     pub fn take(&self, rows: &[u32]) -> PolarsResult<Self>
         requires in_range { All (λ row. row < length self.now.slots) rows.now }
         requires few { length rows.now < 2 ^ 63 }
-        ensures ok { IfOk result (λ c. c ≡ plain_column self.now.name self.now.dtype (map (slot_at self.now.slots) rows.now)) }
+        ensures ok { IfOk result (λ c. c ≡ fresh_column self.now.name self.now.dtype (map (slot_at self.now.slots) rows.now)) }
         ensures err { IfErr result IsNoMemory }
     {
         let mut taken = A::empty(self.allocator());

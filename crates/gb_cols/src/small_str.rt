@@ -10,12 +10,12 @@ pub struct PlSmallStr {
 }
 
 impl PlSmallStr {
-    ghost use Rattle.gb_cols.specs.PlSmallStr.{text_of, IsNoMemory};
+    ghost use Rattle.gb_cols.specs.PlSmallStr.{name_of, IsNoMemory};
     ghost use Rattle.std.specs.Prelude.{IfErr};
 
     /// A copy of the text.
     pub fn from_str(alloc: Global, text: &str) -> PolarsResult<PlSmallStr>
-        ensures ok { IfOk result (λ name. text_of name ≡ text.now) }
+        ensures ok { IfOk result (λ name. name_of name ≡ text.now) }
         ensures err { IfErr result IsNoMemory }
     {
         Ok(PlSmallStr {
@@ -24,14 +24,14 @@ impl PlSmallStr {
     }
 
     pub fn as_str(&self) -> &str
-        ensures { result.now ≡ text_of self.now }
+        ensures { result.now ≡ name_of self.now }
     {
         self.text.as_str()
     }
 
     /// The same text.
     pub fn try_clone(&self) -> PolarsResult<PlSmallStr>
-        ensures ok { IfOk result (λ name. text_of name ≡ text_of self.now) }
+        ensures ok { IfOk result (λ name. name_of name ≡ name_of self.now) }
         ensures err { IfErr result IsNoMemory }
     {
         Ok(PlSmallStr {

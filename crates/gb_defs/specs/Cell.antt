@@ -1,18 +1,24 @@
--- How a cell of a table's text reads as a slot, and how a slot is printed. A field that is the null
--- word is null; every other field is a value. Cells of text and of whole numbers are read and printed
--- today; a value of another type does not read, and is printed as nothing.
-use Rattle.std.specs.Prelude.{ℕ, ◌^◌, ◌==◌, nat_lt, Bool, true, false, not, ◌&&◌, ℤ, pos, negsuc, List, [], length, Option, Some, None, if◌then◌else◌}
-use Rattle.std.specs.Fmt.{signed_decimal}
+-- How a cell of a table's text reads as a slot, by the type of its column. A field that is the null word
+-- is null; every other field is a value. A category reads as its text: codes are given to a column as a
+-- whole (`Table`).
+use Rattle.std.specs.Prelude.{ℕ, suc, ◌+◌, ◌-◌, ◌*◌, ◌^◌, ◌==◌, nat_le, nat_lt, Bool, true, false, not, ◌&&◌, ℤ, pos, negsuc, List, [], ◌∷◌, ◌++◌, length, Option, Some, None, option_map, codes, if◌then◌else◌}
+use Rattle.std.specs.Char.{digit_value, is_ascii_hexdigit}
+use Rattle.std.specs.List.{after_first, before_first}
 use Rattle.std.specs.Str.{bytes_eq, is_utf8, all_ascii_digits}
-use Rattle.std.specs.Str.Parse.{without_leading_plus, without_leading_sign, signed_digits_value, digits_value}
-use Rattle.std.specs.Int.{Width}
+use Rattle.std.specs.Str.Parse.{without_leading_plus, without_leading_sign, starts_with_minus, signed_digits_value, digits_value}
+use Rattle.std.specs.Int.{Width, w32, w64, w128}
 use mir.Val.{bits, hbits}
-use Rattle.gb_defs.specs.Slot.{Slot, Nil, Num, Bytes, Items}
-use Rattle.gb_defs.specs.ColumnType.{FlatType, Unsigned, Signed, String, ColumnType, Flat, ListOf, ArrayOf, StructOf}
+use Rattle.gb_defs.specs.Slot.{Slot, Nil, Num, Bytes}
+use Rattle.gb_defs.specs.ColumnType.{FlatType, Null, Boolean, Unsigned, Signed, Decimal, Date, Time, Datetime, Duration, String, Binary, Categorical, ColumnType, Flat, ListOf, ArrayOf, StructOf}
+use Rattle.gb_defs.specs.TypeWord.{scale_of}
 
 -- one decimal digit or more, and nothing else
 abbrev pub is_numeral : List ℕ → Bool
 is_numeral bs = not (length bs == 0) && all_ascii_digits bs
+
+-- the number that digits write, None where a byte is no digit or 64 bits are too few
+abbrev pub magnitude : List ℕ → Option ℕ
+magnitude bs = if all_ascii_digits bs && nat_lt (digits_value 10 bs) (2 ^ 64) then Some (digits_value 10 bs) else None
 
 -- whether a number is in the range of a signed type
 abbrev pub fits_signed : Width → ℤ → Bool
@@ -30,11 +36,55 @@ unsigned_value w bs =
     if is_numeral (without_leading_plus bs) && nat_lt (digits_value 10 (without_leading_plus bs)) (2 ^ bits w)
     then Some (Num (pos (digits_value 10 (without_leading_plus bs)))) else None
 
+abbrev pub boolean_value : List ℕ → Option Slot
+boolean_value bs =
+    if bytes_eq bs (codes "true") then Some (Num (pos 1)) else if bytes_eq bs (codes "false") then Some (Num (pos 0)) else None
+
+abbrev pub is_point : ℕ → Bool
+is_point c = c == 46
+
+-- digits before and behind a point as a number of 128 bits that counts parts of 10 ^ scale
+abbrev pub decimal_parts : ℕ → Bool → List ℕ → List ℕ → Option Slot
+decimal_parts scale negative whole part =
+    let n = digits_value 10 (whole ++ part) * 10 ^ (scale - length part) in
+    if is_numeral (whole ++ part) && nat_le (length part) scale && (if negative then nat_le n (2 ^ 127) else nat_lt n (2 ^ 127))
+    then Some (Num (negated negative n)) else None
+  where
+    negative_of : ℕ → ℤ
+    negative_of n = if n == 0 then pos 0 else negsuc (n - 1)
+    negated : Bool → ℕ → ℤ
+    negated true n = negative_of n
+    negated false n = pos n
+
+-- an optional sign, digits, and an optional point with at most as many digits behind it as the scale
+abbrev pub decimal_value : ℕ → List ℕ → Option Slot
+decimal_value scale bs =
+    decimal_parts scale (starts_with_minus bs) (before_first is_point (without_leading_sign bs)) (after_first is_point (without_leading_sign bs))
+
+-- the bytes that pairs of hexadecimal digits write
+abbrev pub hexadecimal : List ℕ → Option (List ℕ)
+hexadecimal [] = Some []
+hexadecimal (high ∷ []) = None
+hexadecimal (high ∷ low ∷ rest) =
+    if is_ascii_hexdigit high && is_ascii_hexdigit low
+    then option_map (λ bytes. (digit_value high * 16 + digit_value low) ∷ bytes) (hexadecimal rest) else None
+
+abbrev pub text_value : List ℕ → Option Slot
+text_value bs = if is_utf8 bs then Some (Bytes bs) else None
+
 -- what a field that is not the null word reads as
 abbrev pub flat_value : FlatType → List ℕ → Option Slot
+flat_value Boolean bs = boolean_value bs
 flat_value (Unsigned w) bs = unsigned_value w bs
 flat_value (Signed w) bs = signed_value w bs
-flat_value String bs = if is_utf8 bs then Some (Bytes bs) else None
+flat_value (Decimal precision scale) bs = decimal_value (scale_of scale) bs
+flat_value Date bs = signed_value w32 bs
+flat_value Time bs = signed_value w64 bs
+flat_value (Datetime unit) bs = signed_value w64 bs
+flat_value (Duration unit) bs = signed_value w64 bs
+flat_value String bs = text_value bs
+flat_value Binary bs = option_map (λ bytes. Bytes bytes) (hexadecimal bs)
+flat_value (Categorical texts ordering) bs = text_value bs
 flat_value _ bs = None
 
 abbrev pub value_of_field : ColumnType → List ℕ → Option Slot
@@ -58,10 +108,3 @@ is_read (Flat t) = is_read_flat t
 is_read (ListOf t) = false
 is_read (ArrayOf t width) = false
 is_read (StructOf fs) = false
-
--- the text of a slot
-abbrev pub cell_text : List ℕ → Slot → List ℕ
-cell_text null_word Nil = null_word
-cell_text null_word (Num n) = signed_decimal n
-cell_text null_word (Bytes bs) = bs
-cell_text null_word (Items ss) = []

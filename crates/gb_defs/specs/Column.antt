@@ -37,8 +37,12 @@ abbrev pub Frame : Type 0
 Frame = List ColumnValue
 
 -- a column in one chunk, with no flag
-abbrev pub plain_column : List ℕ → ColumnType → List Slot → ColumnValue
-plain_column name dtype slots = record { name = name; dtype = dtype; slots = slots; chunks = length slots ∷ []; sorted = NotSorted; all_used = false }
+abbrev pub fresh_column : List ℕ → ColumnType → List Slot → ColumnValue
+fresh_column name dtype slots = record { name = name; dtype = dtype; slots = slots; chunks = length slots ∷ []; sorted = NotSorted; all_used = false }
+
+-- the slots of these rows, in one chunk with no flag
+abbrev pub taken : List ℕ → ColumnValue → ColumnValue
+taken rows c = fresh_column c.name c.dtype (map (slot_at c.slots) rows)
 
 -- ---- flags
 

@@ -1,3 +1,4 @@
+-- in the order of dependence
 pub mod Slot
 pub mod ColumnType
 pub mod Order
@@ -8,14 +9,16 @@ pub mod Flat
 pub mod Groups
 pub mod Hash
 pub mod Partitions
+pub mod Rows
 pub mod Path
 pub mod Answer
 pub mod Fault
 pub mod TypeWord
 pub mod Cell
+pub mod CellText
 pub mod Table
 pub mod Text
 pub mod Request
 pub mod Outcome
 pub mod Worked
-pub mod Plain
+pub mod Slow

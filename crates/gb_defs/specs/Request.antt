@@ -61,17 +61,22 @@ with_number option word n =
 
 -- what was given so far
 pub record Given : Type 0 where
-  pub by : Option (List ℕ)
+  pub by : List (List ℕ)
   pub aggs : List (List ℕ × Method)
   pub numbers : Numbers
   pub null_word : Option (List ℕ)
   pub explain : Bool
 
 abbrev pub nothing : Given
-nothing = record { by = None; aggs = []; numbers = no_numbers; null_word = None; explain = false }
+nothing = record { by = []; aggs = []; numbers = no_numbers; null_word = None; explain = false }
+
+-- the keys with one more, which is the only one today
+abbrev pub with_name : List ℕ → List (List ℕ) → Option (List (List ℕ))
+with_name word [] = Some (word ∷ [])
+with_name word (name ∷ names) = None
 
 abbrev pub with_key : List ℕ → Given → Option Given
-with_key word g = option_map (λ v. record g { by = Some v }) (once g.by (Some word))
+with_key word g = option_map (λ names. record g { by = names }) (with_name word g.by)
 
 -- only aggregates may come again
 abbrev pub with_agg : List ℕ → Given → Option Given
@@ -114,8 +119,13 @@ options_of n null_word explain =
 abbrev pub default_options : ToolOptions
 default_options = options_of no_numbers [] false
 
+-- the keys, where there is one
+abbrev pub some_names : List (List ℕ) → Option (List (List ℕ))
+some_names [] = None
+some_names (name ∷ names) = Some (name ∷ names)
+
 abbrev pub group_of : Given → Option Request
-group_of g = option_map (λ name. Group (name ∷ []) g.aggs (options_of g.numbers (unwrap_or g.null_word []) g.explain)) g.by
+group_of g = option_map (λ names. Group names g.aggs (options_of g.numbers (unwrap_or g.null_word []) g.explain)) (some_names g.by)
 
 unfoldable pub request : List (List ℕ) → Option Request
 request [] = None

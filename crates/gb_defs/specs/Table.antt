@@ -1,13 +1,14 @@
 -- A table's text, read. The records and their fields are those that `csv` reads with a flexible reader,
 -- with no header row and no trimming, from the bytes after a byte order mark. Faults come in reading
--- order; rows count from 0, the header, and columns from 1.
-use Rattle.std.specs.Prelude.{ℕ, suc, ◌==◌, Bool, not, List, [], ◌∷◌, map, length, Option, Some, None, Result, Ok, Err, if◌then◌else◌}
+-- order; rows count from 0, the header, and columns from 1. A header field that names a type of which no
+-- cell is read yet is a bad cell of the header.
+use Rattle.std.specs.Prelude.{ℕ, suc, pos, ◌==◌, Bool, true, not, ◌||◌, ◌&&◌, List, [], ◌∷◌, ◌++◌, map, length, position, Option, Some, None, unwrap_or, Result, Ok, Err, if◌then◌else◌}
 use Rattle.std.specs.Str.{bytes_eq, is_utf8}
-use Rattle.std.specs.List.{list_any, list_all, before_last, after_last}
+use Rattle.std.specs.List.{list_any, before_last, after_last}
 use Rattle.csv.specs.Reading.{records, default_config, strip_bom}
-use Rattle.gb_defs.specs.Slot.{Slot, slot_at}
-use Rattle.gb_defs.specs.ColumnType.{ColumnType, FlatType, Flat, text}
-use Rattle.gb_defs.specs.Column.{Frame, plain_column}
+use Rattle.gb_defs.specs.Slot.{Slot, Nil, Num, Bytes, slot_at}
+use Rattle.gb_defs.specs.ColumnType.{CategoricalOrdering, Categorical, ColumnType, FlatType, Flat, text}
+use Rattle.gb_defs.specs.Column.{ColumnValue, Frame, NotSorted, fresh_column}
 use Rattle.gb_defs.specs.TypeWord.{type_of_word}
 use Rattle.gb_defs.specs.Cell.{cell_slot, is_read}
 
@@ -38,11 +39,15 @@ abbrev pub onto : {A : Type 0} → A → Result (List A) TableFault → Result (
 onto x (Ok xs) = Ok (x ∷ xs)
 onto x (Err fault) = Err fault
 
+-- whether a header field is text, and names a type of which cells are read today
+abbrev pub is_readable : List ℕ → Bool
+is_readable field = is_utf8 field && is_read (head_of field).dtype
+
 -- the columns from the k-th on, after those with the names `seen`
 abbrev pub heads_from : ℕ → List (List ℕ) → List (List ℕ) → Result (List Head) TableFault
 heads_from k seen [] = Ok []
 heads_from k seen (field ∷ fields) =
-    if not (is_utf8 field) then Err (BadCell 0 k)
+    if not (is_readable field) then Err (BadCell 0 k)
     else if list_any (bytes_eq (head_of field).name) seen then Err (SameName k)
     else onto (head_of field) (heads_from (suc k) ((head_of field).name ∷ seen) fields)
 
@@ -78,10 +83,44 @@ rows_from null_word row heads (fields ∷ rest) = row_onto (record_slots null_wo
 abbrev pub slots_of_column : ℕ → List (List Slot) → List Slot
 slots_of_column k rows = map (λ row. slot_at row k) rows
 
+-- ---- the texts of a category column, by the order in which they first stand
+
+abbrev pub with_text : List (List ℕ) → Slot → List (List ℕ)
+with_text texts (Bytes bytes) = if list_any (bytes_eq bytes) texts then texts else texts ++ bytes ∷ []
+with_text texts _ = texts
+
+-- the texts of the slots behind those that are known
+abbrev pub texts_after : List (List ℕ) → List Slot → List (List ℕ)
+texts_after texts [] = texts
+texts_after texts (slot ∷ slots) = texts_after (with_text texts slot) slots
+
+abbrev pub texts_in : List Slot → List (List ℕ)
+texts_in slots = texts_after [] slots
+
+-- the code of a text: how many others first stand before it
+abbrev pub coded_slot : List (List ℕ) → Slot → Slot
+coded_slot texts (Bytes bytes) = Num (pos (unwrap_or (position (bytes_eq bytes) texts) 0))
+coded_slot texts slot = slot
+
+abbrev pub category_column : List ℕ → CategoricalOrdering → List Slot → ColumnValue
+category_column name ordering slots = record {
+  name = name;
+  dtype = Flat (Categorical (Some (texts_in slots)) ordering);
+  slots = map (coded_slot (texts_in slots)) slots;
+  chunks = length slots ∷ [];
+  sorted = NotSorted;
+  all_used = true;
+}
+
+-- the column of a name and a type whose cells read as these slots
+abbrev pub read_column : List ℕ → ColumnType → List Slot → ColumnValue
+read_column name (Flat (Categorical texts ordering)) slots = category_column name ordering slots
+read_column name t slots = fresh_column name t slots
+
 -- the columns from the k-th on
 abbrev pub columns_from : ℕ → List Head → List (List Slot) → Frame
 columns_from k [] rows = []
-columns_from k (head ∷ heads) rows = plain_column head.name head.dtype (slots_of_column k rows) ∷ columns_from (suc k) heads rows
+columns_from k (head ∷ heads) rows = read_column head.name head.dtype (slots_of_column k rows) ∷ columns_from (suc k) heads rows
 
 abbrev pub frame_by_rows : List Head → Result (List (List Slot)) TableFault → Result Frame TableFault
 frame_by_rows heads (Err fault) = Err fault
@@ -98,14 +137,3 @@ table_of_records null_word (header ∷ rest) = frame_by_heads null_word (heads_o
 -- the frame that the bytes are, or the first fault
 unfoldable pub table : List ℕ → List ℕ → Result Frame TableFault
 table bytes null_word = table_of_records null_word (records default_config (strip_bom bytes))
-
-abbrev pub if_all_read : Frame → Option Frame
-if_all_read frame = if list_all (λ c. is_read c.dtype) frame then Some frame else None
-
-abbrev pub readable : Result Frame TableFault → Option Frame
-readable (Err fault) = None
-readable (Ok frame) = if_all_read frame
-
--- the frame, where the table has no fault and each of its types is read today
-abbrev pub readable_table : List ℕ → List ℕ → Option Frame
-readable_table bytes null_word = readable (table bytes null_word)

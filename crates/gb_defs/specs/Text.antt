@@ -7,7 +7,7 @@ use Rattle.gb_defs.specs.Slot.{slot_at}
 use Rattle.gb_defs.specs.Column.{Content}
 use Rattle.gb_defs.specs.Classes.{rows_below}
 use Rattle.gb_defs.specs.TypeWord.{type_word}
-use Rattle.gb_defs.specs.Cell.{cell_text}
+use Rattle.gb_defs.specs.CellText.{cell_text}
 
 -- the name, a colon and the type's word
 abbrev pub header_field : Content → List ℕ
@@ -17,7 +17,7 @@ abbrev pub header_line : List Content → List ℕ
 header_line columns = row_text default_writer (map header_field columns)
 
 abbrev pub row_cells : List ℕ → List Content → ℕ → List (List ℕ)
-row_cells null_word columns row = map (λ c. cell_text null_word (slot_at c.slots row)) columns
+row_cells null_word columns row = map (λ c. cell_text null_word c.dtype (slot_at c.slots row)) columns
 
 abbrev pub row_line : List ℕ → List Content → ℕ → List ℕ
 row_line null_word columns row = row_text default_writer (row_cells null_word columns row)

@@ -1,16 +1,31 @@
--- Requests and slots of the worked rows.
-use Rattle.std.specs.Prelude.{ℕ, List, [], ◌∷◌, true, codes, negsuc, pos, ◌^◌, ◌-◌}
+-- Requests, columns and slots of the worked rows.
+use Rattle.std.specs.Prelude.{ℕ, Bool, true, List, [], ◌∷◌, Option, Some, None, codes, negsuc, pos, ◌^◌, ◌-◌, map, replicate}
 use Rattle.std.specs.Int.{w64}
-use Rattle.gb_defs.specs.Slot.{Slot, Num, slot_at}
+use Rattle.gb_defs.specs.Slot.{Slot, Nil, Num, Bytes, slot_at}
+use Rattle.gb_defs.specs.ColumnType.{ColumnType, Categorical, Flat, Lexical}
+use Rattle.gb_defs.specs.Column.{ColumnValue, SortedFlag, fresh_column}
+use Rattle.gb_defs.specs.Classes.{rows_below, same_slot}
 use Rattle.gb_defs.specs.Hash.{hash_of}
+use Rattle.gb_defs.specs.Partitions.{threaded_groups}
+use Rattle.gb_defs.specs.Rows.{Rows, rows_of_slots}
+use Rattle.gb_defs.specs.Path.{Path, path_of}
 use Rattle.gb_defs.specs.Fold.{Sum, Count}
-use Rattle.gb_defs.specs.Request.{Request, Group, default_options}
+use Rattle.gb_defs.specs.Request.{Request, Group, request, default_options}
+
+-- ---- requests
+
+-- what the words behind `group` ask for
+abbrev pub asked : List (List ℕ) → Option Request
+asked words = request (codes "group" ∷ words)
 
 abbrev pub sums_by_date : Request
 sums_by_date = Group (codes "date" ∷ []) ((codes "temp", Sum) ∷ (codes "temp", Count true) ∷ []) default_options
 
 abbrev pub sums_by_key : Request
 sums_by_key = Group (codes "k" ∷ []) ((codes "v", Sum) ∷ []) default_options
+
+abbrev pub sums_of_colon : Request
+sums_of_colon = Group (codes "k" ∷ []) ((codes "a:b", Sum) ∷ []) default_options
 
 abbrev pub keys_alone : Request
 keys_alone = Group (codes "k" ∷ []) [] default_options
@@ -24,6 +39,8 @@ two_workers = Group (codes "k" ∷ []) ((codes "v", Sum) ∷ []) (record default
 abbrev pub null_by : Request
 null_by = Group (codes "k" ∷ []) [] (record default_options { null_word = codes "--by" })
 
+-- ---- hashes and partitions
+
 -- the least number, 0 and the least number again
 abbrev pub least_and_zero : List Slot
 least_and_zero = Num (negsuc (2 ^ 63 - 1)) ∷ Num (pos 0) ∷ Num (negsuc (2 ^ 63 - 1)) ∷ []
@@ -31,3 +48,29 @@ least_and_zero = Num (negsuc (2 ^ 63 - 1)) ∷ Num (pos 0) ∷ Num (negsuc (2 ^ 
 -- the hash of each of some slots under the seed 0 and no mixing
 abbrev pub unmixed : List Slot → ℕ → ℕ
 unmixed slots i = hash_of w64 0 (λ x. x) (slot_at slots i)
+
+abbrev pub unmixed_text : List ℕ → ℕ
+unmixed_text bytes = hash_of w64 0 (λ x. x) (Bytes bytes)
+
+abbrev pub in_two_partitions : Bool → List (ℕ × List ℕ)
+in_two_partitions sorted = threaded_groups (same_slot least_and_zero) (unmixed least_and_zero) 2 sorted (rows_below 3)
+
+-- ---- columns and paths
+
+abbrev pub numbers_slots : List ℕ → List Slot
+numbers_slots ns = map (λ n. Num (pos n)) ns
+
+-- the texts b and a, in this order, compared as texts
+abbrev pub b_and_a : ColumnType
+b_and_a = Flat (Categorical (Some (codes "b" ∷ codes "a" ∷ [])) Lexical)
+
+-- so many rows of null, as a column of a type
+abbrev pub nulls_of : ColumnType → ℕ → ColumnValue
+nulls_of t count = fresh_column [] t (replicate count Nil)
+
+abbrev pub flagged_as : SortedFlag → ColumnValue → ColumnValue
+flagged_as flag c = record c { sorted = flag }
+
+-- the path that a key is given, by so many workers, from more than two rows on
+abbrev pub path_by : ℕ → ColumnValue → Path
+path_by workers key = path_of key true workers 2

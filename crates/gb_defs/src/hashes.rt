@@ -1,13 +1,9 @@
 //! What the definitions of hashes give on worked words: each clause is an equation that computes.
 
-ghost use Rattle.std.specs.Prelude.{◌≡◌, ◌+◌, ◌-◌, ◌^◌, [], ◌∷◌, codes, false, negsuc, pos, true};
+ghost use Rattle.std.specs.Prelude.{◌≡◌, ◌-◌, ◌^◌, [], ◌∷◌, codes, false, negsuc, pos, true};
 ghost use Rattle.std.specs.Int.{w32, w64, w128};
 ghost use Rattle.gb_defs.specs.Slot.{Nil, Num, Bytes};
-ghost use Rattle.gb_defs.specs.ColumnType.{int64, text};
-ghost use Rattle.gb_defs.specs.Classes.{rows_below, same_slot};
-ghost use Rattle.gb_defs.specs.Partitions.{threaded_groups};
-ghost use Rattle.gb_defs.specs.Path.{path_of, Table, Threaded};
-ghost use Rattle.gb_defs.specs.Worked.{least_and_zero, unmixed};
+ghost use Rattle.gb_defs.specs.Worked.{in_two_partitions, unmixed_text};
 ghost use Rattle.gb_defs.specs.Hash.{seed_mix, hash_of, folded_multiply, boost_combine, partition_of};
 
 /// A word mixed, and slots hashed under the seed 7, or with no mixing.
@@ -17,8 +13,8 @@ pub fn slots()
     ensures number { hash_of w32 7 seed_mix (Num (pos 5)) ≡ 16879849568532771706 }
     ensures negative { hash_of w32 7 seed_mix (Num (negsuc 0)) ≡ 18246602271723342527 }
     ensures wide { hash_of w128 7 seed_mix (Num (pos (2 ^ 64))) ≡ 17069728591328954800 }
-    ensures empty { hash_of w64 0 (λ x. x) (Bytes (codes "")) ≡ 3188347919 }
-    ensures text_unmixed { hash_of w64 0 (λ x. x) (Bytes (codes "abcdefghi")) ≡ 7523094290187761166 }
+    ensures empty { unmixed_text (codes "") ≡ 3188347919 }
+    ensures text_unmixed { unmixed_text (codes "abcdefghi") ≡ 7523094290187761166 }
     ensures text { hash_of w64 7 seed_mix (Bytes (codes "abcdefghi")) ≡ 9024299621873819995 }
 {}
 
@@ -37,15 +33,6 @@ pub fn words()
 /// Groups by partitions: the rows hold the least number, 0 and the least number, whose bits are their
 /// hashes.
 pub fn partitions()
-    ensures by_partition { threaded_groups (same_slot least_and_zero) (unmixed least_and_zero) 2 false (rows_below 3) ≡ (1, 1 ∷ []) ∷ (0, 0 ∷ 2 ∷ []) ∷ [] }
-    ensures by_first_row { threaded_groups (same_slot least_and_zero) (unmixed least_and_zero) 2 true (rows_below 3) ≡ (0, 0 ∷ 2 ∷ []) ∷ (1, 1 ∷ []) ∷ [] }
-{}
-
-/// The path of a key.
-pub fn paths()
-    ensures text_key { path_of text true 2 1000 0 ≡ Threaded }
-    ensures long_number_key { path_of int64 true 2 1000 1001 ≡ Threaded }
-    ensures short_number_key { path_of int64 true 2 1000 1000 ≡ Table }
-    ensures one_worker { path_of text true 1 1000 2000 ≡ Table }
-    ensures not_asked { path_of text false 2 1000 2000 ≡ Table }
+    ensures by_partition { in_two_partitions false ≡ (1, 1 ∷ []) ∷ (0, 0 ∷ 2 ∷ []) ∷ [] }
+    ensures by_first_row { in_two_partitions true ≡ (0, 0 ∷ 2 ∷ []) ∷ (1, 1 ∷ []) ∷ [] }
 {}

@@ -2,7 +2,7 @@ ghost use Rattle.std.specs.Prelude.{◌≡◌, ◌==◌, ℕ, ◌<◌, ◌^◌, 
 ghost use Rattle.std.specs.List.{count_by};
 ghost use Rattle.gb_defs.specs.Slot.{is_nil};
 ghost use Rattle.gb_defs.specs.Column.{ColumnValue};
-ghost use Rattle.gb_cols.specs.PlSmallStr.{text_of, IsNoMemory};
+ghost use Rattle.gb_cols.specs.PlSmallStr.{name_of, IsNoMemory};
 ghost use Rattle.gb_cols.specs.DataType.{type_of};
 
 use gb_cols::chunked::{Int64Chunked, StringChunked, UInt32Chunked};
@@ -24,7 +24,7 @@ impl Series {
     ghost use Rattle.gb_series.specs.Series.{taken, value_of};
 
     pub fn name(&self) -> &PlSmallStr
-        ensures { text_of result.now ≡ (value_of self.now).name }
+        ensures { name_of result.now ≡ (value_of self.now).name }
     {
         match self {
             Series::UInt32(column) => column.name(),
@@ -34,7 +34,7 @@ impl Series {
     }
 
     pub fn rename(&mut self, name: PlSmallStr)
-        ensures { value_of self.new ≡ record (value_of self.old) { name = text_of name } }
+        ensures { value_of self.new ≡ record (value_of self.old) { name = name_of name } }
     {
         match self {
             Series::UInt32(column) => column.rename(name),

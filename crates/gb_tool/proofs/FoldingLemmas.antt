@@ -8,7 +8,7 @@ use Rattle.gb_defs.specs.Slot.{Slot, Nil, Num}
 use Rattle.gb_defs.specs.ColumnType.{ColumnType, uint32}
 use Rattle.gb_defs.specs.Answer.{aggregated, answer_name}
 use Rattle.gb_tool.specs.Folds.{sum_of, valid_count}
-use Rattle.gb_defs.specs.Column.{ColumnValue, content, plain_column}
+use Rattle.gb_defs.specs.Column.{ColumnValue, content, fresh_column}
 use Rattle.gb_defs.specs.Fold.{Sum, Count, fold_picked, fold_of, number_slot, sum_type, wrap, total, valid}
 use Rattle.gb_defs.proofs.FoldLemmas.{sum_push_null, sum_push_value}
 use Rattle.gb_cols.specs.Array.{number_slot_of}
@@ -17,11 +17,11 @@ use Rattle.gb_tool.proofs.PushLemmas.{pushed_plain}
 
 -- the columns are the aggregates
 module _ (name : List ℕ) (c : ColumnValue) (lists : List (List ℕ)) where
-  pub sums_are : content (plain_column (answer_name name Sum) (sum_type c.dtype) (map (sum_of c) lists)) ≡ aggregated (name, Sum) (Some c) lists
+  pub sums_are : content (fresh_column (answer_name name Sum) (sum_type c.dtype) (map (sum_of c) lists)) ≡ aggregated (name, Sum) (Some c) lists
   unfolding fold_picked
   sums_are = refl
 
-  pub counts_are : (all : Bool) → content (plain_column (answer_name name (Count all)) uint32 (map (fold_of (Count all) c.dtype c.slots) lists)) ≡ aggregated (name, Count all) (Some c) lists
+  pub counts_are : (all : Bool) → content (fresh_column (answer_name name (Count all)) uint32 (map (fold_of (Count all) c.dtype c.slots) lists)) ≡ aggregated (name, Count all) (Some c) lists
   counts_are all = refl
 
   -- how the two counts fold
@@ -50,8 +50,8 @@ module _ (lists : List (SmallVec ℕ)) (i : ℕ) (rows : SmallVec ℕ) (lt : i <
 
   -- the column of one list more
   pub column_next : (f : List ℕ → Slot) (name : List ℕ) (t : ColumnType) (old new : ColumnValue) (s : Slot) → new ≡ pushed old s → s ≡ f rows.items →
-      old ≡ plain_column name t (map f (take i (lists_of lists))) → new ≡ plain_column name t (map f (take (i + 1) (lists_of lists)))
+      old ≡ fresh_column name t (map f (take i (lists_of lists))) → new ≡ fresh_column name t (map f (take (i + 1) (lists_of lists)))
   column_next f name t old new s e at h =
       e ∙ ap (λ c. pushed c s) h ∙ pushed_plain name t (map f (take i (lists_of lists))) s
-      ∙ ap (λ r. plain_column name t (map f (take i (lists_of lists)) ++ r ∷ [])) (at ∙ ap f (sym list_at))
-      ∙ ap (plain_column name t) (sym (map_more f (lists_of lists) i [] list_in))
+      ∙ ap (λ r. fresh_column name t (map f (take i (lists_of lists)) ++ r ∷ [])) (at ∙ ap f (sym list_at))
+      ∙ ap (fresh_column name t) (sym (map_more f (lists_of lists) i [] list_in))

@@ -16,7 +16,7 @@ use Rattle.gb_defs.specs.Outcome.{Report, find_columns, outcome_by_keys}
 use Rattle.gb_defs.specs.Text.{frame_text}
 use Rattle.gb_defs.proofs.AnswerLemmas.{answer_one, faulty, groups_firsts, groups_lists, reported}
 use Rattle.gb_defs.proofs.ClassesLemmas.{firsts_below, firsts_few, rows_below_all}
-use Rattle.gb_cols.specs.PlSmallStr.{text_of}
+use Rattle.gb_cols.specs.PlSmallStr.{name_of}
 use Rattle.gb_cols.specs.PolarsError.{IsCause}
 use Rattle.gb_series.specs.Frame.{frame_fault, missing_column}
 use Rattle.gb_series.proofs.FrameLemmas.{found_long}
@@ -65,10 +65,10 @@ module _ {A : Type 0} (cause : A → Option Fault) where
 
 module _ (frame : Frame) where
   abbrev pub missing_cause : Agg → Option Fault
-  missing_cause agg = missing_column frame (text_of agg.column)
+  missing_cause agg = missing_column frame (name_of agg.column)
 
   abbrev pub unfit_cause : Agg → Option Fault
-  unfit_cause agg = unfit_or (text_of agg.column) (unfit_at (method_of agg.method) (find_column frame (text_of agg.column))) None
+  unfit_cause agg = unfit_or (name_of agg.column) (unfit_at (method_of agg.method) (find_column frame (name_of agg.column))) None
 
   no_groups : (m : GroupByMethod) → is_groups (method_of m) ≡ false
   no_groups Sum = refl
@@ -81,7 +81,7 @@ module _ (frame : Frame) where
   pub missing_is : (aggs : List Agg) → missing_fault frame (aggs_of aggs) ≡ first_cause missing_cause aggs
   missing_is [] = refl
   missing_is (agg ∷ aggs) =
-      rw (no_groups agg.method) (cond_or (is_none (find_column frame (text_of agg.column))) (ColumnNotFound (text_of agg.column)) (missing_fault frame (aggs_of aggs))
+      rw (no_groups agg.method) (cond_or (is_none (find_column frame (name_of agg.column))) (ColumnNotFound (name_of agg.column)) (missing_fault frame (aggs_of aggs))
       ∙ ap (option_or (missing_cause agg)) (missing_is aggs))
 
   unfit_split : (name : List ℕ) (o : Option Operation) (rest : Option Fault) → unfit_or name o rest ≡ option_or (unfit_or name o None) rest
@@ -91,7 +91,7 @@ module _ (frame : Frame) where
   pub unfit_is : (aggs : List Agg) → unfit_fault frame (aggs_of aggs) ≡ first_cause unfit_cause aggs
   unfit_is [] = refl
   unfit_is (agg ∷ aggs) =
-      unfit_split (text_of agg.column) (unfit_at (method_of agg.method) (find_column frame (text_of agg.column))) (unfit_fault frame (aggs_of aggs))
+      unfit_split (name_of agg.column) (unfit_at (method_of agg.method) (find_column frame (name_of agg.column))) (unfit_fault frame (aggs_of aggs))
       ∙ ap (option_or (unfit_cause agg)) (unfit_is aggs)
 
   no_cause : (b : Bool) (f : Fault) → cond b (Some f) None ≡ None → b ≡ false
@@ -99,9 +99,9 @@ module _ (frame : Frame) where
   no_cause false f e = refl
 
   -- no column that an aggregate names is missing
-  pub found_at : (aggs : List Agg) (i : ℕ) (d : Agg) → i < length aggs → missing_fault frame (aggs_of aggs) ≡ None → is_none (find_column frame (text_of (get_or aggs i d).column)) ≡ false
+  pub found_at : (aggs : List Agg) (i : ℕ) (d : Agg) → i < length aggs → missing_fault frame (aggs_of aggs) ≡ None → is_none (find_column frame (name_of (get_or aggs i d).column)) ≡ false
   found_at aggs i d lt e =
-      no_cause (is_none (find_column frame (text_of (get_or aggs i d).column))) (ColumnNotFound (text_of (get_or aggs i d).column))
+      no_cause (is_none (find_column frame (name_of (get_or aggs i d).column))) (ColumnNotFound (name_of (get_or aggs i d).column))
       (none_at missing_cause aggs i d lt (sym (missing_is aggs) ∙ e))
 
 -- ---- the groups of a column
@@ -278,7 +278,7 @@ module _ (frame : Frame) (name : List ℕ) (key : ColumnValue) (found : find_col
 module _ (frame : Frame) (lists : List (List ℕ)) (aggs : List Agg) (i : ℕ) (agg : Agg) (lt : i < length aggs) (read : agg ≡ get_or aggs i agg) where
   pub columns_more : (key : Content) (old : List Content) (one : Content) →
       old ≡ key ∷ map (λ agg. aggregated agg (find_column frame agg.0) lists) (aggs_of (take i aggs)) →
-      one ≡ aggregated (agg_of agg) (find_column frame (text_of agg.column)) lists →
+      one ≡ aggregated (agg_of agg) (find_column frame (name_of agg.column)) lists →
       old ++ one ∷ [] ≡ key ∷ map (λ agg. aggregated agg (find_column frame agg.0) lists) (aggs_of (take (i + 1) aggs))
   columns_more key old one before at =
       let column = λ (agg : List ℕ × Method). aggregated agg (find_column frame agg.0) lists in

@@ -8,7 +8,7 @@ use Rattle.std.specs.Cmp.Lexicographic.{bytes_decides}
 use Rattle.std.proofs.lemmas.Bool.{cases_Bool}
 use Rattle.std.proofs.lemmas.List.{append-nil, map-append}
 use Rattle.csv.specs.Records.{field_at}
-use Rattle.gb_defs.specs.Column.{Frame, plain_column}
+use Rattle.gb_defs.specs.Column.{Frame, fresh_column}
 use Rattle.gb_defs.specs.Cell.{is_read}
 use Rattle.gb_defs.specs.Table.{TableFault, Head, head_of, onto, heads_from, heads_of, columns_from}
 use Rattle.gb_tool.specs.Head.{readable_head, readable_field}
@@ -63,7 +63,7 @@ reads k seen (field ∷ fields) =
     reads_field _ _ (is_utf8 field) (list_any (bytes_eq (head_of field).name) seen) (head_of field) _ seen _ refl (reads (suc k) ((head_of field).name ∷ seen) fields)
 
 abbrev empty_frame : List Head → Frame
-empty_frame heads = map (λ head. plain_column head.name head.dtype []) heads
+empty_frame heads = map (λ head. fresh_column head.name head.dtype []) heads
 
 empty_from : (k : ℕ) (heads : List Head) → columns_from k heads [] ≡ empty_frame heads
 empty_from k [] = refl
@@ -172,7 +172,7 @@ module _ (fields : List (List ℕ)) where
             header_none fields (s.so_far ∙ ap (option_map (λ hs. s.heads ++ hs)) (here ∙ none))
 
         pub header_more : (keys' : List (Bor (List ℕ))) → holds keys head.name ≡ false → ((name : List ℕ) → holds keys' name ≡ cond (bytes_eq head.name name) true (holds keys name))
-            → IsHeader (i + 1) (frame ++ plain_column head.name head.dtype [] ∷ []) keys'
+            → IsHeader (i + 1) (frame ++ fresh_column head.name head.dtype [] ∷ []) keys'
         header_more keys' e update =
             let new = sym (s.has head.name) ∙ e in
             let rest = read_heads ((head_of field).name ∷ s.names) (drop (i + 1) fields) in
@@ -181,7 +181,7 @@ module _ (fields : List (List ℕ)) where
               heads = s.heads ++ head ∷ [];
               names = (head_of field).name ∷ s.names;
               so_far = s.so_far ∙ ap (option_map (λ hs. s.heads ++ hs)) (here ∙ one) ∙ front_more s.heads head rest;
-              frame_is = ap (λ f. f ++ plain_column head.name head.dtype [] ∷ []) s.frame_is ∙ sym (map-append (λ h. plain_column h.name h.dtype []) s.heads (head ∷ []));
+              frame_is = ap (λ f. f ++ fresh_column head.name head.dtype [] ∷ []) s.frame_is ∙ sym (map-append (λ h. fresh_column h.name h.dtype []) s.heads (head ∷ []));
               has = λ name. added (holds keys' name) (head_of field).name name (list_any (bytes_eq name) s.names) (holds keys name)
                   (update name ∙ ap (λ h. cond (bytes_eq h.name name) true (holds keys name)) (sym (same_head field head is))) (s.has name);
             }

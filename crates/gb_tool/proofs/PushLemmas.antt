@@ -7,12 +7,12 @@ use Rattle.std.proofs.lemmas.Str.{IsUtf8-from_ascii}
 use Rattle.csv.specs.Records.{AllText, cut_from, field_at}
 use Rattle.gb_defs.specs.Slot.{Slot}
 use Rattle.gb_defs.specs.ColumnType.{ColumnType}
-use Rattle.gb_defs.specs.Column.{ColumnValue, Frame, plain_column}
+use Rattle.gb_defs.specs.Column.{ColumnValue, Frame, fresh_column}
 use Rattle.gb_cols.specs.Column.{pushed}
 use Rattle.gb_tool.specs.Table.{both_onto, column_with, columns_with}
 
 -- a push to a column in one chunk
-pub pushed_plain : (name : List ℕ) (t : ColumnType) (slots : List Slot) (slot : Slot) → pushed (plain_column name t slots) slot ≡ plain_column name t (slots ++ slot ∷ [])
+pub pushed_plain : (name : List ℕ) (t : ColumnType) (slots : List Slot) (slot : Slot) → pushed (fresh_column name t slots) slot ≡ fresh_column name t (slots ++ slot ∷ [])
 pushed_plain name t slots slot = rw (length-append slots (slot ∷ []))
 
 no_more : (o : Option ColumnValue) → both_onto o None ≡ None

@@ -4,7 +4,7 @@ use Rattle.std.specs.Prelude.{IsSome}
 use Rattle.gb_defs.specs.Fault as fault
 use Rattle.gb_defs.specs.Request as asked
 use Rattle.gb_defs.specs.Outcome.{Outcome, BadTable, BadGroup, Report}
-use Rattle.gb_cols.specs.PlSmallStr.{text_of}
+use Rattle.gb_cols.specs.PlSmallStr.{name_of}
 use Rattle.gb_cols.specs.declared.small_str.PlSmallStr.{PlSmallStr}
 use Rattle.gb_cols.specs.declared.error.PolarsError.{PolarsError}
 use Rattle.gb_cols.specs.declared.error.PolarsError.TheVariants.{ColumnNotFound, ComputeError}
@@ -28,7 +28,7 @@ module _ (run : Run) (q : asked.Request) (bytes : List ℕ) (e : run.request ≡
   long_input NoMemory h = inr (inr (inl refl))
 
 module _ (run : Run) (s : Status) (cause : HasCause run s) where
-  pub missing_named : (name : PlSmallStr) → s ≡ Group (ColumnNotFound name) → IsSome run.request × Comes run.request run.input run.limit (BadGroup (fault.ColumnNotFound (text_of name)))
+  pub missing_named : (name : PlSmallStr) → s ≡ Group (ColumnNotFound name) → IsSome run.request × Comes run.request run.input run.limit (BadGroup (fault.ColumnNotFound (name_of name)))
   missing_named name e =
       let h : HasCause run (Group (ColumnNotFound name)) = subst (HasCause run) e cause in
       (h.3.some, subst (λ f. Comes run.request run.input run.limit (BadGroup f)) h.1 h.2)

@@ -6,7 +6,7 @@ use Rattle.std.specs.Str.{bytes_eq, is_utf8}
 use Rattle.std.proofs.lemmas.Bool.{cases_Bool, eqb-true, eqb-false, eq-eqb}
 use Rattle.std.proofs.lemmas.List.{map-append, length-append, length-map}
 use Rattle.gb_defs.specs.Slot.{Slot, slot_at}
-use Rattle.gb_defs.specs.Column.{ColumnValue, Frame, plain_column, names_of, frame_height, all_have_length, repeated_after}
+use Rattle.gb_defs.specs.Column.{ColumnValue, Frame, fresh_column, names_of, frame_height, all_have_length, repeated_after}
 use Rattle.gb_defs.specs.Cell.{cell_slot, is_read}
 use Rattle.gb_defs.specs.Table.{TableFault, Head, onto, cell_onto, cells_from, record_slots, row_onto, rows_from, slots_of_column, columns_from, head_of, heads_from}
 use Rattle.gb_cols.specs.Column.{pushed}
@@ -111,10 +111,10 @@ slot_after (p ∷ pre) slots slot zero e = absurd (omega (arith, e))
 slot_after (p ∷ pre) slots slot (suc k) e = slot_after pre slots slot k (omega (arith, e))
 
 column_more : (k : ℕ) (head : Head) (rows : List (List Slot)) (pre slots : List Slot) (slot : Slot) → length pre ≡ k
-    → pushed (plain_column head.name head.dtype (slots_of_column k rows)) slot ≡ plain_column head.name head.dtype (slots_of_column k (rows ++ (pre ++ slot ∷ slots) ∷ []))
+    → pushed (fresh_column head.name head.dtype (slots_of_column k rows)) slot ≡ fresh_column head.name head.dtype (slots_of_column k (rows ++ (pre ++ slot ∷ slots) ∷ []))
 column_more k head rows pre slots slot e =
     pushed_plain head.name head.dtype (slots_of_column k rows) slot
-    ∙ ap (plain_column head.name head.dtype) (sym (map-append (λ row. slot_at row k) rows ((pre ++ slot ∷ slots) ∷ [])
+    ∙ ap (fresh_column head.name head.dtype) (sym (map-append (λ row. slot_at row k) rows ((pre ++ slot ∷ slots) ∷ [])
     ∙ ap (λ s. slots_of_column k rows ++ s ∷ []) (slot_after pre slots slot k e)))
 
 -- a frame is this one of the slots, or none where there are none
@@ -135,12 +135,12 @@ columns_more null_word k [] rows pre [] e = refl
 columns_more null_word k [] rows pre (field ∷ fields) e = refl
 columns_more null_word k (head ∷ heads) rows pre [] e = refl
 columns_more null_word k (head ∷ heads) rows pre (field ∷ fields) e =
-    takes_both (plain_column head.name head.dtype (slots_of_column k rows)) (cell_slot null_word head.dtype field) _ (read_slots null_word heads fields)
+    takes_both (fresh_column head.name head.dtype (slots_of_column k rows)) (cell_slot null_word head.dtype field) _ (read_slots null_word heads fields)
     (λ slot slots. columns_from (suc k) heads (rows ++ ((pre ++ slot ∷ []) ++ slots) ∷ []))
     (λ slots. columns_from k (head ∷ heads) (rows ++ (pre ++ slots) ∷ []))
     (λ slot. columns_more null_word (suc k) heads rows (pre ++ slot ∷ []) fields (omega (arith, e, length-append pre (slot ∷ []))))
     (λ slot slots. ap (λ c. c ∷ columns_from (suc k) heads (rows ++ ((pre ++ slot ∷ []) ++ slots) ∷ [])) (column_more k head rows pre slots slot e)
-    ∙ ap (λ r. plain_column head.name head.dtype (slots_of_column k (rows ++ (pre ++ slot ∷ slots) ∷ [])) ∷ columns_from (suc k) heads (rows ++ r ∷ [])) (append_assoc pre (slot ∷ []) slots))
+    ∙ ap (λ r. fresh_column head.name head.dtype (slots_of_column k (rows ++ (pre ++ slot ∷ slots) ∷ [])) ∷ columns_from (suc k) heads (rows ++ r ∷ [])) (append_assoc pre (slot ∷ []) slots))
 
 pub all_read_of : (k : ℕ) (heads : List Head) (rows : List (List Slot)) → list_all (λ c. is_read c.dtype) (columns_from k heads rows) ≡ list_all (λ c. is_read c.dtype) (columns_from k heads [])
 all_read_of k [] rows = refl

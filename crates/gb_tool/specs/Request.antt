@@ -2,7 +2,7 @@
 use Rattle.std.specs.Prelude.{◌≡◌, ℕ, List, length, map}
 use Rattle.gb_defs.specs.Fold as fold
 use Rattle.gb_defs.specs.Request as request
-use Rattle.gb_cols.specs.PlSmallStr.{text_of}
+use Rattle.gb_cols.specs.PlSmallStr.{name_of}
 use Rattle.gb_tool.specs.declared.request.GroupByMethod.{GroupByMethod}
 use Rattle.gb_tool.specs.declared.request.GroupByMethod.TheVariants.{Sum, Count}
 use Rattle.gb_tool.specs.declared.request.Agg.{Agg}
@@ -15,16 +15,16 @@ method_of Sum = fold.Sum
 method_of (Count all) = fold.Count all
 
 abbrev pub agg_of : Agg → List ℕ × fold.Method
-agg_of agg = (text_of agg.column, method_of agg.method)
+agg_of agg = (name_of agg.column, method_of agg.method)
 
 abbrev pub aggs_of : List Agg → List (List ℕ × fold.Method)
 aggs_of aggs = map agg_of aggs
 
 abbrev pub options_of : ToolOptions → request.ToolOptions
-options_of o = record { workers = o.workers; partitions = o.partitions; piece = o.piece; threshold = o.threshold; seed = o.seed; null_word = text_of o.null_word; explain = o.explain }
+options_of o = record { workers = o.workers; partitions = o.partitions; piece = o.piece; threshold = o.threshold; seed = o.seed; null_word = name_of o.null_word; explain = o.explain }
 
 abbrev pub request_of : Request → request.Request
-request_of (Group by aggs options) = request.Group (map text_of by.items) (aggs_of aggs.items) (options_of options)
+request_of (Group by aggs options) = request.Group (map name_of by.items) (aggs_of aggs.items) (options_of options)
 
 -- one key is asked
 abbrev pub HasOneKey : request.Request → Type 0

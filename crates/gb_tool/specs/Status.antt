@@ -2,7 +2,7 @@
 use Rattle.std.specs.Prelude.{◌≡◌, ◌≢◌, ℕ, List, Option, Some, None}
 use Rattle.gb_defs.specs.Fault as fault
 use Rattle.gb_cols.specs.PolarsError.{cause_of}
-use Rattle.gb_cols.specs.PlSmallStr.{text_of}
+use Rattle.gb_cols.specs.PlSmallStr.{name_of}
 use Rattle.gb_cols.specs.declared.error.PolarsError.{PolarsError}
 use Rattle.gb_cols.specs.declared.error.PolarsError.TheVariants as polars
 use Rattle.gb_tool.specs.declared.status.TableError.{TableError}
@@ -27,7 +27,7 @@ of_table error.NoMemory = NoMemory
 
 -- the error tells this fault: a missing column by its name, any other fault as ComputeError
 abbrev pub Tells : PolarsError → fault.Fault → Type 0
-Tells (polars.ColumnNotFound name) f = f ≡ fault.ColumnNotFound (text_of name)
+Tells (polars.ColumnNotFound name) f = f ≡ fault.ColumnNotFound (name_of name)
 Tells polars.ComputeError f = (name : List ℕ) → f ≢ fault.ColumnNotFound name
 Tells _ f = ⊥
 

@@ -3,12 +3,12 @@
 ghost use Rattle.std.specs.Prelude.{◌≡◌, ℕ, ◌+◌, ◌<◌, ◌≤◌, ◌^◌, List, map, length, All, None, Some, IfOk, IfErr, OnOk, MatchOption, ◌+ℤ◌, not, true};
 ghost use Rattle.gb_defs.specs.Slot.{Num, is_nil, slot_at};
 ghost use Rattle.gb_defs.specs.ColumnType.{text, uint32};
-ghost use Rattle.gb_defs.specs.Column.{content, plain_column};
+ghost use Rattle.gb_defs.specs.Column.{content, fresh_column};
 ghost use Rattle.gb_defs.specs.Fold.{wrap, total, valid, picked, number_slot, sum_type, fold_of, Sum, Count};
 ghost use Rattle.gb_defs.specs.Answer.{aggregated, answer_name};
 ghost use Rattle.gb_defs.specs.Fault.{has_sum, unfit_operation, unfit_or, InvalidOperation, OfSum};
 ghost use Rattle.gb_cols.specs.PolarsError.{Explains};
-ghost use Rattle.gb_cols.specs.PlSmallStr.{text_of, IsNoMemory};
+ghost use Rattle.gb_cols.specs.PlSmallStr.{name_of, IsNoMemory};
 ghost use Rattle.gb_cols.specs.Array.{number_slot_of};
 ghost use Rattle.gb_groups.specs.Groups.{lists_of};
 ghost use Rattle.gb_series.specs.Series.{value_of};
@@ -37,7 +37,7 @@ pub fn aggregate(
     requires short { length (value_of column.now).slots < 2 ^ 32 }
     ensures fits { OnOk result (unfit_operation (method_of agg.now.method) (value_of column.now).dtype ≡ None) }
     ensures ok { IfOk result (λ s. content (value_of s) ≡ aggregated (agg_of agg.now) (Some (value_of column.now)) (lists_of lists.now)) }
-    ensures err { IfErr result (λ e. Explains e (unfit_or (text_of agg.now.column) (unfit_operation (method_of agg.now.method) (value_of column.now).dtype) None)) }
+    ensures err { IfErr result (λ e. Explains e (unfit_or (name_of agg.now.column) (unfit_operation (method_of agg.now.method) (value_of column.now).dtype) None)) }
 {
     let name = name_of_answer(alloc, agg)?;
     match agg.method {
@@ -54,7 +54,7 @@ pub fn aggregate(
 
 // The name of an aggregate's column.
 fn name_of_answer(alloc: Global, agg: &Agg) -> PolarsResult<PlSmallStr>
-    ensures ok { IfOk result (λ name. text_of name ≡ answer_name (text_of agg.now.column) (method_of agg.now.method)) }
+    ensures ok { IfOk result (λ name. name_of name ≡ answer_name (name_of agg.now.column) (method_of agg.now.method)) }
     ensures err { IfErr result IsNoMemory }
 {
     let suffix = match agg.method {
@@ -76,8 +76,8 @@ fn column_sums(
     requires rows { All (AreRows (length (value_of column.now).slots)) (lists_of lists.now) }
     requires few { length lists.now < 2 ^ 32 }
     ensures fits { OnOk result (has_sum (value_of column.now).dtype ≡ true) }
-    ensures ok { IfOk result (λ s. value_of s ≡ plain_column (text_of name) (sum_type (value_of column.now).dtype) (map (sum_of (value_of column.now)) (lists_of lists.now))) }
-    ensures err { IfErr result (λ e. Explains e (unfit_or (text_of asked.now) (unfit_operation Sum (value_of column.now).dtype) None)) }
+    ensures ok { IfOk result (λ s. value_of s ≡ fresh_column (name_of name) (sum_type (value_of column.now).dtype) (map (sum_of (value_of column.now)) (lists_of lists.now))) }
+    ensures err { IfErr result (λ e. Explains e (unfit_or (name_of asked.now) (unfit_operation Sum (value_of column.now).dtype) None)) }
 {
     match column {
         Series::UInt32(numbers) => Ok(Series::UInt32(sums(name, numbers, lists)?)),
@@ -89,7 +89,7 @@ fn column_sums(
 // The refusal of a sum of texts.
 fn text_sum(texts: &StringChunked, asked: &PlSmallStr) -> PolarsError
     ensures typed { texts.now.dtype ≡ text }
-    ensures cause { Explains result (Some (InvalidOperation OfSum (text_of asked.now))) }
+    ensures cause { Explains result (Some (InvalidOperation OfSum (name_of asked.now))) }
 {
     match PlSmallStr::from_str(texts.allocator(), asked.as_str()) {
         Ok(name) => PolarsError::InvalidOperation(Operation::Sum, name),
@@ -106,7 +106,7 @@ fn sums<T: PolarsNumericType>(
     requires rows { All (AreRows (length column.now.slots)) (lists_of lists.now) }
     requires few { length lists.now < 2 ^ 32 }
     ensures typed { column.now.dtype ≡ T.dtype }
-    ensures ok { IfOk result (λ c. c ≡ plain_column (text_of name) T.dtype (map (λ rows. Num (wrap T.dtype (total (valid (picked column.now.slots rows))))) (lists_of lists.now))) }
+    ensures ok { IfOk result (λ c. c ≡ fresh_column (name_of name) T.dtype (map (λ rows. Num (wrap T.dtype (total (valid (picked column.now.slots rows))))) (lists_of lists.now))) }
     ensures err { IfErr result IsNoMemory }
 {
     let mut sums: ChunkedArray<PrimitiveArray<T>> = ChunkedArray::new(column.allocator(), name);
@@ -150,7 +150,7 @@ fn column_counts(
     requires rows { All (AreRows (length (value_of column.now).slots)) (lists_of lists.now) }
     requires few { length lists.now < 2 ^ 32 }
     requires short { length (value_of column.now).slots < 2 ^ 32 }
-    ensures ok { IfOk result (λ c. c ≡ plain_column (text_of name) uint32 (map (fold_of (Count include_nulls) (value_of column.now).dtype (value_of column.now).slots) (lists_of lists.now))) }
+    ensures ok { IfOk result (λ c. c ≡ fresh_column (name_of name) uint32 (map (fold_of (Count include_nulls) (value_of column.now).dtype (value_of column.now).slots) (lists_of lists.now))) }
     ensures err { IfErr result IsNoMemory }
 {
     if include_nulls {
@@ -164,7 +164,7 @@ fn column_counts(
 fn row_counts(alloc: Global, name: PlSmallStr, lists: &[IdxVec]) -> PolarsResult<UInt32Chunked>
     requires short { All (λ (rows : List ℕ). length rows < 2 ^ 32) (lists_of lists.now) }
     requires few { length lists.now < 2 ^ 32 }
-    ensures ok { IfOk result (λ c. c ≡ plain_column (text_of name) uint32 (map (λ rows. number_slot (length rows)) (lists_of lists.now))) }
+    ensures ok { IfOk result (λ c. c ≡ fresh_column (name_of name) uint32 (map (λ rows. number_slot (length rows)) (lists_of lists.now))) }
     ensures err { IfErr result IsNoMemory }
 {
     let mut counts = UInt32Chunked::new(alloc, name);
@@ -185,7 +185,7 @@ fn valid_counts(
     requires rows { All (AreRows (length (value_of column.now).slots)) (lists_of lists.now) }
     requires few { length lists.now < 2 ^ 32 }
     requires short { length (value_of column.now).slots < 2 ^ 32 }
-    ensures ok { IfOk result (λ c. c ≡ plain_column (text_of name) uint32 (map (valid_count (value_of column.now).slots) (lists_of lists.now))) }
+    ensures ok { IfOk result (λ c. c ≡ fresh_column (name_of name) uint32 (map (valid_count (value_of column.now).slots) (lists_of lists.now))) }
     ensures err { IfErr result IsNoMemory }
 {
     let mut counts = UInt32Chunked::new(alloc, name);

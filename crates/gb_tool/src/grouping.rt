@@ -9,7 +9,7 @@ ghost use Rattle.gb_defs.specs.Outcome.{Report, find_columns, outcome_by_keys};
 ghost use Rattle.gb_defs.specs.Text.{frame_text};
 ghost use Rattle.gb_cols.specs.PolarsError.{Explains};
 ghost use Rattle.gb_defs.specs.Classes.{groups, rows_below, same_slot};
-ghost use Rattle.gb_cols.specs.PlSmallStr.{IsNoMemory, text_of};
+ghost use Rattle.gb_cols.specs.PlSmallStr.{IsNoMemory, name_of};
 ghost use Rattle.gb_groups.specs.GroupsType.{groups_of};
 ghost use Rattle.gb_groups.specs.Groups.{lists_of};
 ghost use Rattle.gb_series.specs.Series.{value_of};
@@ -42,8 +42,8 @@ pub fn group_frame<R: Threads + Sync, G: Gate + Sync>(
     gate: &G,
 ) -> PolarsResult<DataFrame>
     requires row_type { IsSync R.row }
-    ensures ok { IfOk result (λ answer. (null_word : List ℕ) → outcome_by_keys frame.now (aggs_of aggs.now) null_word (find_columns frame.now (text_of by.now ∷ [])) ≡ Report (frame_text (map content answer) null_word)) }
-    ensures err { IfErr result (λ e. (null_word : List ℕ) → IsRefusal e (outcome_by_keys frame.now (aggs_of aggs.now) null_word (find_columns frame.now (text_of by.now ∷ [])))) }
+    ensures ok { IfOk result (λ answer. (null_word : List ℕ) → outcome_by_keys frame.now (aggs_of aggs.now) null_word (find_columns frame.now (name_of by.now ∷ [])) ≡ Report (frame_text (map content answer) null_word)) }
+    ensures err { IfErr result (λ e. (null_word : List ℕ) → IsRefusal e (outcome_by_keys frame.now (aggs_of aggs.now) null_word (find_columns frame.now (name_of by.now ∷ [])))) }
 {
     let key = frame.column(by.as_str())?;
     check_height(frame)?;
@@ -129,12 +129,12 @@ fn found_aggregate(
 ) -> PolarsResult<Series>
     requires frame { IsFrame frame.now }
     requires short { frame_height frame.now < 2 ^ 32 }
-    requires found { is_none (find_column frame.now (text_of agg.now.column)) ≡ false }
+    requires found { is_none (find_column frame.now (name_of agg.now.column)) ≡ false }
     requires rows { All (AreRows (frame_height frame.now)) (lists_of lists.now) }
     requires few { length lists.now < 2 ^ 32 }
-    ensures ok { IfOk result (λ s. content (value_of s) ≡ aggregated (agg_of agg.now) (find_column frame.now (text_of agg.now.column)) (lists_of lists.now)) }
-    ensures fits { OnOk result (unfit_at (method_of agg.now.method) (find_column frame.now (text_of agg.now.column)) ≡ None) }
-    ensures err { IfErr result (λ e. Explains e (unfit_or (text_of agg.now.column) (unfit_at (method_of agg.now.method) (find_column frame.now (text_of agg.now.column))) None)) }
+    ensures ok { IfOk result (λ s. content (value_of s) ≡ aggregated (agg_of agg.now) (find_column frame.now (name_of agg.now.column)) (lists_of lists.now)) }
+    ensures fits { OnOk result (unfit_at (method_of agg.now.method) (find_column frame.now (name_of agg.now.column)) ≡ None) }
+    ensures err { IfErr result (λ e. Explains e (unfit_or (name_of agg.now.column) (unfit_at (method_of agg.now.method) (find_column frame.now (name_of agg.now.column))) None)) }
 {
     let column = frame.column(agg.column.as_str())?;
     aggregate(alloc, column, agg, lists)

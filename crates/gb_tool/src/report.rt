@@ -4,7 +4,7 @@ ghost use Rattle.std.specs.Prelude.{◌≡◌, ◌≤◌, ◌∷◌, [], IfErr, 
 ghost use Rattle.std.specs.Thread.{IsSync};
 ghost use Rattle.gb_defs.specs.Outcome.{Report, outcome};
 ghost use Rattle.gb_defs.specs.Request.{Group};
-ghost use Rattle.gb_cols.specs.PlSmallStr.{text_of};
+ghost use Rattle.gb_cols.specs.PlSmallStr.{name_of};
 ghost use Rattle.gb_tool.specs.Request.{HasOneKey, aggs_of, options_of, request_of};
 ghost use Rattle.gb_tool.specs.Run.{IsRefusedReport};
 
@@ -63,8 +63,8 @@ fn group_report<R: Threads + Sync, G: Gate + Sync>(
 ) -> Result<Vec<u8>, Status>
     requires row_type { IsSync R.row }
     requires few { length bytes.now ≤ 4294967295 }
-    ensures ok { IfOk result (λ text. outcome (Group (text_of by.now ∷ []) (aggs_of aggs.now) (options_of options.now)) bytes.now ≡ Report text.items) }
-    ensures err { IfErr result (λ s. IsRefusedReport s (outcome (Group (text_of by.now ∷ []) (aggs_of aggs.now) (options_of options.now)) bytes.now)) }
+    ensures ok { IfOk result (λ text. outcome (Group (name_of by.now ∷ []) (aggs_of aggs.now) (options_of options.now)) bytes.now ≡ Report text.items) }
+    ensures err { IfErr result (λ s. IsRefusedReport s (outcome (Group (name_of by.now ∷ []) (aggs_of aggs.now) (options_of options.now)) bytes.now)) }
 {
     let null_word = options.null_word.as_str();
     let frame = table_of(alloc, bytes, null_word)?;

@@ -5,7 +5,7 @@ ghost use Rattle.std.specs.Thread.{IsSync};
 ghost use Rattle.gb_defs.specs.Fault as fault;
 ghost use Rattle.gb_defs.specs.Outcome.{BadGroup, BadTable, Report, outcome};
 ghost use Rattle.gb_cols.specs.Device.{Rose};
-ghost use Rattle.gb_cols.specs.PlSmallStr.{text_of};
+ghost use Rattle.gb_cols.specs.PlSmallStr.{name_of};
 ghost use Rattle.gb_cols.specs.declared.small_str.PlSmallStr.{PlSmallStr};
 ghost use Rattle.gb_cols.specs.declared.error.PolarsError.{PolarsError};
 ghost use Rattle.gb_cols.specs.declared.error.PolarsError.TheVariants.{ColumnNotFound, ComputeError};
@@ -103,7 +103,7 @@ pub fn run<R: Threads + Sync, S: Source, W: Sink, E: Sink, G: Gate + Sync>(
 
     // The grouping is at fault: a column is missing, or there is another fault.
     ensures column_not_found { (name : PlSmallStr) → result ≡ status.Group (ColumnNotFound name) → IsSome (asked_by words.now)
-        × Comes (asked_by words.now) (S.left source.old) limits.input_bytes (BadGroup (fault.ColumnNotFound (text_of name))) }
+        × Comes (asked_by words.now) (S.left source.old) limits.input_bytes (BadGroup (fault.ColumnNotFound (name_of name))) }
     ensures group { result ≡ status.Group ComputeError → IsSome (asked_by words.now)
         × ((f : fault.Fault) × ((name : List ℕ) → f ≢ fault.ColumnNotFound name) × Comes (asked_by words.now) (S.left source.old) limits.input_bytes (BadGroup f)) }
     ensures group_errors { (e : PolarsError) → result ≡ status.Group e → (e ≡ ComputeError) ⊎ ((name : PlSmallStr) × (e ≡ ColumnNotFound name)) }

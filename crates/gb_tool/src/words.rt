@@ -6,7 +6,7 @@ pub mod numbers;
 ghost use Rattle.std.specs.Prelude.{◌≡◌, IfErr, IfOk, map, option_map};
 ghost use Rattle.std.specs.String.{string_bytes};
 ghost use Rattle.gb_defs.specs.Request as spelled;
-ghost use Rattle.gb_cols.specs.PlSmallStr.{IsNoMemory, text_of};
+ghost use Rattle.gb_cols.specs.PlSmallStr.{IsNoMemory, name_of};
 ghost use Rattle.gb_tool.specs.Request as made;
 ghost use Rattle.gb_tool.specs.Words.{given_of, numbers_of};
 
@@ -48,7 +48,7 @@ fn given_from(alloc: Global, options: &[String]) -> PolarsResult<Option<Given>>
 
 // The defaults filled in.
 fn options_of(numbers: Numbers, null_word: PlSmallStr, explain: bool) -> ToolOptions
-    ensures { made.options_of result ≡ spelled.options_of (numbers_of numbers) (text_of null_word) explain }
+    ensures { made.options_of result ≡ spelled.options_of (numbers_of numbers) (name_of null_word) explain }
 {
     let workers = numbers.workers.unwrap_or(4);
     ToolOptions {

@@ -1,9 +1,9 @@
 ghost use Rattle.std.specs.Prelude.{◌≡◌, ℕ, ◌+◌, ◌<◌, ◌^◌, length, map, IfOk, IfErr, OnOk, OnErr};
 ghost use Rattle.gb_defs.specs.Slot.{Num, slot_at};
-ghost use Rattle.gb_defs.specs.Column.{plain_column};
+ghost use Rattle.gb_defs.specs.Column.{fresh_column};
 ghost use Rattle.gb_cols.specs.Array.{number_slot_of};
 ghost use Rattle.gb_cols.specs.Column.{pushed};
-ghost use Rattle.gb_cols.specs.PlSmallStr.{text_of, IsNoMemory};
+ghost use Rattle.gb_cols.specs.PlSmallStr.{name_of, IsNoMemory};
 
 use super::ChunkedArray;
 use crate::array::Array;
@@ -18,7 +18,7 @@ impl<T: PolarsNumericType> ChunkedArray<PrimitiveArray<T>> {
     /// These numbers in one chunk, none of them null.
     pub fn from_slice(alloc: Global, name: PlSmallStr, v: &[T::Native]) -> PolarsResult<Self>
         requires { length v.now < 2 ^ 63 }
-        ensures ok { IfOk result (λ c. c ≡ plain_column (text_of name) T.dtype (map (λ n. Num (T.number n)) v.now)) }
+        ensures ok { IfOk result (λ c. c ≡ fresh_column (name_of name) T.dtype (map (λ n. Num (T.number n)) v.now)) }
         ensures err { IfErr result IsNoMemory }
     {
         let chunk = PrimitiveArray::from_slice(alloc, v)?;
@@ -32,7 +32,7 @@ impl<T: PolarsNumericType> ChunkedArray<PrimitiveArray<T>> {
         v: &[Option<T::Native>],
     ) -> PolarsResult<Self>
         requires { length v.now < 2 ^ 63 }
-        ensures ok { IfOk result (λ c. c ≡ plain_column (text_of name) T.dtype (map (number_slot_of T.number) v.now)) }
+        ensures ok { IfOk result (λ c. c ≡ fresh_column (name_of name) T.dtype (map (number_slot_of T.number) v.now)) }
         ensures err { IfErr result IsNoMemory }
     {
         let mut chunk: PrimitiveArray<T> = PrimitiveArray::empty(alloc);

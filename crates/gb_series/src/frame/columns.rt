@@ -1,6 +1,6 @@
 ghost use Rattle.std.specs.Prelude.{◌≡◌, ℕ, ◌<◌, ◌^◌, length, map, None, Some, IfOk, IfErr, IfSome, IfNone, option_map, slice_get};
 ghost use Rattle.gb_defs.specs.Column.{all_have_length as are_all_long, find_column, first_repeated, frame_height, names_of};
-ghost use Rattle.gb_cols.specs.PlSmallStr.{text_of, IsNoMemory};
+ghost use Rattle.gb_cols.specs.PlSmallStr.{name_of, IsNoMemory};
 ghost use Rattle.gb_series.specs.Series.{value_of};
 
 use crate::series::Series;
@@ -32,7 +32,7 @@ pub(super) fn all_have_length(columns: &[Series], height: usize) -> bool
 
 /// The first name that stood before.
 pub(super) fn repeated_name(columns: &Vec<Series>) -> PolarsResult<Option<&PlSmallStr>>
-    ensures ok { IfOk result (λ name. option_map (λ n. text_of n.now) name ≡ first_repeated (names_of (map value_of columns.now.items))) }
+    ensures ok { IfOk result (λ name. option_map (λ n. name_of n.now) name ≡ first_repeated (names_of (map value_of columns.now.items))) }
     ensures err { IfErr result IsNoMemory }
 {
     let mut seen: HashSet<&str> = HashSet::new(*columns.allocator());

@@ -22,7 +22,7 @@ fn is_plain(row: &ByteRecord) -> bool
 }
 
 // The text that a cell is, with no look at a cell that is known to be one.
-fn text_of(cell: &[u8], known: bool) -> Option<&str>
+fn as_text(cell: &[u8], known: bool) -> Option<&str>
     requires { known ≡ true → IsUtf8 cell.now }
     ensures { MatchOption result (¬ (IsUtf8 cell.now)) (λ text. (text.now ≡ cell.now) × IsUtf8 cell.now) }
 {
@@ -79,7 +79,7 @@ fn push_text(
         };
         return Ok(true);
     }
-    let Some(text) = text_of(cell, known) else {
+    let Some(text) = as_text(cell, known) else {
         return Ok(false);
     };
     let Ok(()) = column.push(Some(text)) else {

@@ -1,6 +1,6 @@
 ghost use Rattle.std.specs.Prelude.{◌≡◌, [], true, map, option_map, IfOk, IfErr, IfSome, All};
 ghost use Rattle.gb_defs.specs.Cell.{is_read};
-ghost use Rattle.gb_defs.specs.Column.{plain_column};
+ghost use Rattle.gb_defs.specs.Column.{fresh_column};
 ghost use Rattle.gb_cols.specs.DataType.{type_of};
 ghost use Rattle.gb_cols.specs.PlSmallStr.{IsNoMemory};
 ghost use Rattle.gb_series.specs.Series.{value_of};
@@ -19,7 +19,7 @@ use std::collections::HashSet;
 
 // A column with no slots.
 fn empty_column(alloc: Global, name: &str, dtype: DataType) -> PolarsResult<Series>
-    ensures ok { IfOk result (λ column. value_of column ≡ plain_column name.now (type_of dtype) []) }
+    ensures ok { IfOk result (λ column. value_of column ≡ fresh_column name.now (type_of dtype) []) }
     ensures typed { IfOk result (λ column. is_read (type_of dtype) ≡ true → IsTyped column) }
     ensures err { IfErr result IsNoMemory }
 {

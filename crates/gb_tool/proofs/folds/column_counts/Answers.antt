@@ -2,10 +2,10 @@ use Rattle.std.proofs.Common.{◌∙◌, ap, List, ℕ, map}
 use Rattle.std.proofs.lemmas.Result.{IfOk-weaker}
 use Rattle.gb_defs.specs.Slot.{Slot}
 use Rattle.gb_defs.specs.ColumnType.{uint32}
-use Rattle.gb_defs.specs.Column.{plain_column}
+use Rattle.gb_defs.specs.Column.{fresh_column}
 use Rattle.gb_groups.specs.Groups.{lists_of}
 use Rattle.gb_series.specs.Series.{value_of}
-use Rattle.gb_cols.specs.PlSmallStr.{text_of}
+use Rattle.gb_cols.specs.PlSmallStr.{name_of}
 use Rattle.gb_tool.proofs.FoldingLemmas.{counted_rows, counted_valid}
 use Rattle.gb_tool.proofs.folds.column_counts.Goals as goal
 
@@ -13,10 +13,10 @@ pub returns-then-include_nulls-clause-ok : goal.returns-then-include_nulls-claus
 returns-then-include_nulls-clause-ok c =
     let lists = lists_of c.args.lists.now in
     rw c.if-include_nulls.true (IfOk-weaker c.row_counts.result _ _ (λ counts e.
-    e ∙ ap (λ (f : List ℕ → Slot). plain_column (text_of c.args.name) uint32 (map f lists)) (counted_rows (text_of c.args.name) (value_of c.args.column.now) lists)) c.row_counts.ensures.ok)
+    e ∙ ap (λ (f : List ℕ → Slot). fresh_column (name_of c.args.name) uint32 (map f lists)) (counted_rows (name_of c.args.name) (value_of c.args.column.now) lists)) c.row_counts.ensures.ok)
 
 pub returns-else-include_nulls-clause-ok : goal.returns-else-include_nulls-clause-ok
 returns-else-include_nulls-clause-ok c =
     let lists = lists_of c.args.lists.now in
     rw c.if-include_nulls.false (IfOk-weaker c.valid_counts.result _ _ (λ counts e.
-    e ∙ ap (λ (f : List ℕ → Slot). plain_column (text_of c.args.name) uint32 (map f lists)) (counted_valid (text_of c.args.name) (value_of c.args.column.now) lists)) c.valid_counts.ensures.ok)
+    e ∙ ap (λ (f : List ℕ → Slot). fresh_column (name_of c.args.name) uint32 (map f lists)) (counted_valid (name_of c.args.name) (value_of c.args.column.now) lists)) c.valid_counts.ensures.ok)

@@ -5,7 +5,7 @@ use Rattle.gb_defs.specs.Column.{content, find_column}
 use Rattle.gb_defs.specs.Answer.{aggregated}
 use Rattle.gb_defs.specs.Fault.{unfit_fault}
 use Rattle.gb_series.specs.declared.series.Series.{Series}
-use Rattle.gb_cols.specs.PlSmallStr.{text_of}
+use Rattle.gb_cols.specs.PlSmallStr.{name_of}
 use Rattle.gb_cols.specs.PolarsError.{Explains, cause_of}
 use Rattle.gb_groups.specs.Groups.{lists_of}
 use Rattle.gb_series.specs.Series.{value_of}
@@ -18,7 +18,7 @@ use Rattle.gb_tool.proofs.grouping.answer_columns.Goals as goal
 pub found_aggregate-requires-clause-found : goal.found_aggregate-requires-clause-found
 found_aggregate-requires-clause-found c =
     let frame = c.args.frame.now in
-    subst (λ (agg : Agg). is_none (find_column frame (text_of agg.column)) ≡ false) (sym c.agg-item.is)
+    subst (λ (agg : Agg). is_none (find_column frame (name_of agg.column)) ≡ false) (sym c.agg-item.is)
     (found_at frame c.args.aggs.now c.loop-agg.agg-index c.agg-item.result c.loop-agg-test.true c.requires.found)
 
 pub returns-in_err-found_aggregate-clause-err : goal.returns-in_err-found_aggregate-clause-err

@@ -4,7 +4,7 @@ use Rattle.std.proofs.lemmas.Simd.{map-map}
 use Rattle.std.proofs.lemmas.Result.{err_from_is_err_and, IfOk-weaker, IfErr-weaker}
 use Rattle.smallvec.specs.SmallVec.{SmallVec}
 use Rattle.gb_defs.specs.Column.{content}
-use Rattle.gb_cols.specs.PlSmallStr.{text_of}
+use Rattle.gb_cols.specs.PlSmallStr.{name_of}
 use Rattle.gb_cols.specs.PolarsError.{cause_of}
 use Rattle.gb_series.specs.Series.{value_of}
 use Rattle.gb_tool.specs.Request.{aggs_of}
@@ -15,26 +15,26 @@ pub returns-in_err-check_height-clause-err : goal.returns-in_err-check_height-cl
 returns-in_err-check_height-clause-err g c =
     let found = rw c.as_str.ensures at c.in_ok-key.ensures.ok in
     let p = err_from_is_err_and c.from_residual-in_err-check_height.result c.from_residual-in_err-check_height.ensures.1 in
-    rw (p.1, p.2) (refused_height c.args.frame.now (text_of c.args.by.now) (value_of c.in_ok-key.key.now) found c.check_height.ensures.frame (aggs_of c.args.aggs.now)
+    rw (p.1, p.2) (refused_height c.args.frame.now (name_of c.args.by.now) (value_of c.in_ok-key.key.now) found c.check_height.ensures.frame (aggs_of c.args.aggs.now)
     (cause_of c.in_err-check_height.field-0.0) c.in_err-check_height.ensures.err)
 
 pub returns-in_err-check_columns-clause-err : goal.returns-in_err-check_columns-clause-err
 returns-in_err-check_columns-clause-err g c =
     let found = rw c.as_str.ensures at c.in_ok-key.ensures.ok in
     let p = err_from_is_err_and c.from_residual-in_err-check_columns.result c.from_residual-in_err-check_columns.ensures.1 in
-    rw (p.1, p.2) (refused_missing c.args.frame.now (text_of c.args.by.now) (value_of c.in_ok-key.key.now) found c.check_height.ensures.frame (aggs_of c.args.aggs.now)
+    rw (p.1, p.2) (refused_missing c.args.frame.now (name_of c.args.by.now) (value_of c.in_ok-key.key.now) found c.check_height.ensures.frame (aggs_of c.args.aggs.now)
     c.in_ok-check_height.ensures.ok (cause_of c.in_err-check_columns.field-0.0) c.in_err-check_columns.ensures.err)
 
 pub key_groups-requires-clause-few : goal.key_groups-requires-clause-few
 key_groups-requires-clause-few g c κs within =
     let found = rw c.as_str.ensures at c.in_ok-key.ensures.ok in
-    let long = key_long c.args.frame.now (text_of c.args.by.now) (value_of c.in_ok-key.key.now) found c.check_height.ensures.frame (aggs_of c.args.aggs.now) in
+    let long = key_long c.args.frame.now (name_of c.args.by.now) (value_of c.in_ok-key.key.now) found c.check_height.ensures.frame (aggs_of c.args.aggs.now) in
     subst (λ (n : ℕ). n < 4294967296) (sym long) c.in_ok-check_height.ensures.ok
 
 pub answer_columns-requires-clause-firsts : goal.answer_columns-requires-clause-firsts
 answer_columns-requires-clause-firsts g c =
     let frame = c.args.frame.now in
-    let name = text_of c.args.by.now in
+    let name = name_of c.args.by.now in
     let aggs = aggs_of c.args.aggs.now in
     let key = value_of c.in_ok-key.key.now in
     let found = rw c.as_str.ensures at c.in_ok-key.ensures.ok in
@@ -44,7 +44,7 @@ answer_columns-requires-clause-firsts g c =
 pub answer_columns-requires-clause-rows : goal.answer_columns-requires-clause-rows
 answer_columns-requires-clause-rows g c =
     let frame = c.args.frame.now in
-    let name = text_of c.args.by.now in
+    let name = name_of c.args.by.now in
     let aggs = aggs_of c.args.aggs.now in
     let key = value_of c.in_ok-key.key.now in
     let found = rw c.as_str.ensures at c.in_ok-key.ensures.ok in
@@ -54,7 +54,7 @@ answer_columns-requires-clause-rows g c =
 pub answer_columns-requires-clause-few : goal.answer_columns-requires-clause-few
 answer_columns-requires-clause-few g c =
     let frame = c.args.frame.now in
-    let name = text_of c.args.by.now in
+    let name = name_of c.args.by.now in
     let aggs = aggs_of c.args.aggs.now in
     let key = value_of c.in_ok-key.key.now in
     let found = rw c.as_str.ensures at c.in_ok-key.ensures.ok in
@@ -65,13 +65,13 @@ pub returns-in_err-columns-clause-err : goal.returns-in_err-columns-clause-err
 returns-in_err-columns-clause-err g c =
     let found = rw c.as_str.ensures at c.in_ok-key.ensures.ok in
     let p = err_from_is_err_and c.from_residual-in_err-columns.result c.from_residual-in_err-columns.ensures.1 in
-    rw (p.1, p.2) (refused_unfit c.args.frame.now (text_of c.args.by.now) (value_of c.in_ok-key.key.now) found c.check_height.ensures.frame (aggs_of c.args.aggs.now)
+    rw (p.1, p.2) (refused_unfit c.args.frame.now (name_of c.args.by.now) (value_of c.in_ok-key.key.now) found c.check_height.ensures.frame (aggs_of c.args.aggs.now)
     c.in_ok-check_height.ensures.ok c.in_ok-check_columns.ensures.ok (cause_of c.in_err-columns.field-0.0) c.in_err-columns.ensures.err)
 
 pub returns-clause-ok : goal.returns-clause-ok
 returns-clause-ok g c =
     let frame = c.args.frame.now in
-    let name = text_of c.args.by.now in
+    let name = name_of c.args.by.now in
     let aggs = aggs_of c.args.aggs.now in
     let key = value_of c.in_ok-key.key.now in
     let found = rw c.as_str.ensures at c.in_ok-key.ensures.ok in
@@ -84,7 +84,7 @@ returns-clause-ok g c =
 pub returns-clause-err : goal.returns-clause-err
 returns-clause-err g c =
     let frame = c.args.frame.now in
-    let name = text_of c.args.by.now in
+    let name = name_of c.args.by.now in
     let aggs = aggs_of c.args.aggs.now in
     let key = value_of c.in_ok-key.key.now in
     let found = rw c.as_str.ensures at c.in_ok-key.ensures.ok in

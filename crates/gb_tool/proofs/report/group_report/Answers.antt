@@ -1,7 +1,7 @@
 use Rattle.std.proofs.Common.{◌∙◌, ap, sym, [], ◌∷◌}
 use Rattle.std.proofs.lemmas.Result.{err_from_is_err_and}
 use Rattle.gb_defs.specs.Outcome.{Report}
-use Rattle.gb_cols.specs.PlSmallStr.{text_of}
+use Rattle.gb_cols.specs.PlSmallStr.{name_of}
 use Rattle.gb_tool.specs.Request.{aggs_of, options_of}
 use Rattle.gb_tool.proofs.ReportLemmas.{bad_group, bad_table, good_report}
 use Rattle.gb_tool.proofs.report.group_report.Goals as goal
@@ -9,18 +9,18 @@ use Rattle.gb_tool.proofs.report.group_report.Goals as goal
 pub returns-in_err-frame-clause-err : goal.returns-in_err-frame-clause-err
 returns-in_err-frame-clause-err g c =
     let p = err_from_is_err_and c.from_residual.result c.from_residual.ensures.1 in
-    rw (p.1, p.2) (bad_table (text_of c.args.by.now ∷ []) (aggs_of c.args.aggs.now) (options_of c.args.options.now) c.args.bytes.now c.in_err-frame.field-0.0 (rw (← c.as_str-null_word.ensures) c.in_err-frame.ensures.err))
+    rw (p.1, p.2) (bad_table (name_of c.args.by.now ∷ []) (aggs_of c.args.aggs.now) (options_of c.args.options.now) c.args.bytes.now c.in_err-frame.field-0.0 (rw (← c.as_str-null_word.ensures) c.in_err-frame.ensures.err))
 
 pub returns-in_err-answer-clause-err : goal.returns-in_err-answer-clause-err
 returns-in_err-answer-clause-err g c =
     let p = err_from_is_err_and c.from_residual-in_err-answer.result c.from_residual-in_err-answer.ensures.1 in
     let read = rw c.as_str-null_word.ensures at c.in_ok-frame.ensures.ok in
-    rw p.1 (bad_group (text_of c.args.by.now ∷ []) (aggs_of c.args.aggs.now) (options_of c.args.options.now) c.args.bytes.now c.in_ok-frame.frame read c.in_err-answer.field-0.0 p.0
-    (c.in_err-answer.ensures.err (text_of c.args.options.now.null_word)) p.2)
+    rw p.1 (bad_group (name_of c.args.by.now ∷ []) (aggs_of c.args.aggs.now) (options_of c.args.options.now) c.args.bytes.now c.in_ok-frame.frame read c.in_err-answer.field-0.0 p.0
+    (c.in_err-answer.ensures.err (name_of c.args.options.now.null_word)) p.2)
 
 pub returns-clause-ok : goal.returns-clause-ok
 returns-clause-ok g c =
-    let null_word = text_of c.args.options.now.null_word in
+    let null_word = name_of c.args.options.now.null_word in
     let read = rw c.as_str-null_word.ensures at c.in_ok-frame.ensures.ok in
-    good_report (text_of c.args.by.now ∷ []) (aggs_of c.args.aggs.now) (options_of c.args.options.now) c.args.bytes.now c.in_ok-frame.frame read c.in_ok-text_of.field-0.items
+    good_report (name_of c.args.by.now ∷ []) (aggs_of c.args.aggs.now) (options_of c.args.options.now) c.args.bytes.now c.in_ok-frame.frame read c.in_ok-text_of.field-0.items
     (c.in_ok-answer.ensures.ok null_word ∙ ap (λ text. Report text) (sym (rw c.as_str-null_word.ensures at c.in_ok-text_of.ensures.ok)))

@@ -10,10 +10,10 @@ returns-then-eq-clause-ok c =
     let same = ap (bytes_eq c.args.cell.now) (sym c.as_bytes.ensures.value) ∙ sym c.eq.ensures ∙ c.if-eq.true in
     ap (λ v. Some v) c.in-Ok.ensures.ok ∙ sym (null_cell c.args.null_word.now c.args.cell.now c.args.column.now same)
 
-pub returns-in_default-text_of-clause-ok : goal.returns-in_default-text_of-clause-ok
-returns-in_default-text_of-clause-ok c =
+pub returns-in_default-as_text-clause-ok : goal.returns-in_default-as_text-clause-ok
+returns-in_default-as_text-clause-ok c =
     let other = ap (bytes_eq c.args.cell.now) (sym c.as_bytes.ensures.value) ∙ sym c.eq.ensures ∙ c.if-eq.false in
-    sym (no_text_cell c.args.null_word.now c.args.cell.now c.args.column.now other c.requires.dtype c.in_default-text_of.ensures)
+    sym (no_text_cell c.args.null_word.now c.args.cell.now c.args.column.now other c.requires.dtype c.in_default-as_text.ensures)
 
 pub returns-clause-ok : goal.returns-clause-ok
 returns-clause-ok c =

@@ -2,10 +2,10 @@ use Rattle.std.proofs.Common.{◌≡◌, ◌+◌, ◌∙◌, ap, cond, ◌++◌,
 use Rattle.std.proofs.lemmas.List.{append-nil}
 use Rattle.std.proofs.lemmas.Bool.{ne_eqb}
 use Rattle.gb_defs.specs.Classes.{class, rows_below}
-use Rattle.gb_defs.specs.Plain.{same_key}
+use Rattle.gb_defs.specs.Slow.{same_key}
 use Rattle.gb_defs.proofs.ClassesLemmas.{class_push, rows_below_more}
-use Rattle.gb_defs.proofs.plain.class_of.Goals as goal
-use Rattle.gb_defs.proofs.plain.class_of.Goals.{then-keys-of+in_ok-push, else-keys-of}
+use Rattle.gb_defs.proofs.slow.class_of.Goals as goal
+use Rattle.gb_defs.proofs.slow.class_of.Goals.{then-keys-of+in_ok-push, else-keys-of}
 
 class_next : (keys : List ℕ) (row of : ℕ) → class (same_key keys) (rows_below (row + 1)) of ≡ class (same_key keys) (rows_below row) of ++ cond (same_key keys of row) (row ∷ []) []
 class_next keys row of = ap (λ rows. class (same_key keys) rows of) (rows_below_more row) ∙ class_push (same_key keys) (rows_below row) row of

@@ -4,7 +4,7 @@ ghost use Rattle.std.specs.Prelude.{◌≡◌, ℕ, ◌+◌, ◌<◌, ◌==◌, 
 ghost use Rattle.gb_defs.specs.Classes.{class, firsts, rows_below};
 ghost use Rattle.gb_defs.specs.ColumnType.{int64};
 ghost use Rattle.gb_defs.specs.Fold.{wrap, total, valid, picked};
-ghost use Rattle.gb_defs.specs.Plain.{same_key, number_slots};
+ghost use Rattle.gb_defs.specs.Slow.{same_key, value_slots};
 
 use std::alloc::{AllocError, Global};
 
@@ -38,7 +38,7 @@ pub fn class_of(alloc: Global, keys: &[u64], of: usize) -> Result<Vec<usize>, Al
 /// The sum of the values at these rows, wrapping at 64 bits; what is missing adds nothing.
 pub fn sum(values: &[Option<i64>], rows: &[usize]) -> i64
     requires { All (λ row. row < length values.now) rows.now }
-    ensures { result ≡ wrap int64 (total (valid (picked (number_slots values.now) rows.now))) }
+    ensures { result ≡ wrap int64 (total (valid (picked (value_slots values.now) rows.now))) }
 {
     let mut sum: i64 = 0;
     for row in rows {

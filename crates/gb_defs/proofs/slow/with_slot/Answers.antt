@@ -1,6 +1,6 @@
 use Rattle.std.proofs.Common.{FitsSigned, w64, rules}
 use Rattle.std.proofs.lemmas.Int.{wrapping_add_is}
-use Rattle.gb_defs.proofs.plain.with_slot.Goals as goal
+use Rattle.gb_defs.proofs.slow.with_slot.Goals as goal
 
 pub returns-in-Some : goal.returns-in-Some
 returns-in-Some c =

@@ -5,10 +5,10 @@ use Rattle.std.proofs.lemmas.Bool.{eqb-true, eq-eqb}
 use Rattle.std.proofs.lemmas.List.{append-nil, take_more}
 use Rattle.std.proofs.lemmas.List.Folds.{list_any-append}
 use Rattle.gb_defs.specs.Classes.{firsts, rows_below}
-use Rattle.gb_defs.specs.Plain.{same_key}
+use Rattle.gb_defs.specs.Slow.{same_key}
 use Rattle.gb_defs.proofs.ClassesLemmas.{firsts_push, rows_below_more, rows_below_all}
-use Rattle.gb_defs.proofs.plain.firsts.Goals as goal
-use Rattle.gb_defs.proofs.plain.firsts.Goals.{then-not-contains+in_ok-push, else-not-contains}
+use Rattle.gb_defs.proofs.slow.firsts.Goals as goal
+use Rattle.gb_defs.proofs.slow.firsts.Goals.{then-not-contains+in_ok-push, else-not-contains}
 
 eqb-swap : (a b : ℕ) → (a == b) ≡ (b == a)
 eqb-swap a b = both_ways (a == b) (b == a) (λ e. eq-eqb b a (sym (eqb-true a b e))) (λ e. eq-eqb a b (sym (eqb-true b a e)))
