@@ -3,14 +3,11 @@
 ghost use Rattle.std.specs.Prelude.{◌≡◌, ◌<◌, ◌^◌, length, IfOk, IfErr};
 ghost use Rattle.std.specs.Thread.{IsSync};
 ghost use Rattle.gb_defs.specs.Column.{ColumnValue};
-ghost use Rattle.gb_defs.specs.Classes.{rows_below};
-ghost use Rattle.gb_defs.specs.Groups.{Idx};
 ghost use Rattle.gb_defs.specs.Path.{path_groups};
 ghost use Rattle.gb_cols.specs.PlSmallStr.{IsNoMemory};
 ghost use Rattle.gb_cols.specs.Pool.{partitions_of};
 ghost use Rattle.gb_groups.specs.GroupsType.{groups_of};
 ghost use Rattle.gb_series.specs.Series.{value_of};
-ghost use Rattle.gb_paths.specs.Numbers.{same_slot_at};
 ghost use Rattle.gb_paths.specs.Tuples.{path_value, tuples_of};
 
 use crate::group_by::group_uncounted;
@@ -83,7 +80,7 @@ fn group_rows<T: Threads + Sync, R: KeyRows, G: Gate + Sync>(
 ) -> PolarsResult<GroupsType>
     requires row_type { IsSync T.row }
     requires few { R.row_count rows.now < 2 ^ 32 }
-    ensures ok { IfOk result (λ g. groups_of g ≡ record { pairs = path_groups (path_value path) (same_slot_at (R.slot rows.now)) (R.row_hash rows.now) (partitions_of pool.now) sorted (rows_below (R.row_count rows.now)); form = Idx; flagged = sorted }) }
+    ensures ok { IfOk result (λ g. groups_of g ≡ path_groups (path_value path) (record { count = R.row_count rows.now; slot = R.slot rows.now; hash = R.row_hash rows.now }) 0 (partitions_of pool.now) sorted) }
     ensures err { IfErr result IsNoMemory }
 {
     match path {

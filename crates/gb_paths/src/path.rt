@@ -1,7 +1,7 @@
 //! The choice between one table and a table for each partition.
 
 ghost use Rattle.std.specs.Prelude.{◌≡◌};
-ghost use Rattle.gb_defs.specs.Path.{is_bytes, path_of};
+ghost use Rattle.gb_defs.specs.Path.{hashed_path};
 ghost use Rattle.gb_cols.specs.Pool.{threshold_of, workers_of};
 ghost use Rattle.gb_paths.specs.Tuples.{path_value};
 
@@ -19,7 +19,7 @@ pub enum Path {
 /// The path of so many keys of bytes, or of numbers: to start threads pays at many rows, or where keys
 /// are long.
 pub fn choose_path(by_bytes: bool, rows: usize, multithreaded: bool, pool: &Pool) -> Path
-    ensures { (dtype : _) → is_bytes dtype ≡ by_bytes → path_value result ≡ path_of dtype multithreaded (workers_of pool.now) (threshold_of pool.now) rows }
+    ensures { path_value result ≡ hashed_path by_bytes rows multithreaded (workers_of pool.now) (threshold_of pool.now) }
 {
     if multithreaded && pool.workers() > 1 && (by_bytes || rows > pool.row_threshold()) {
         Path::Threaded

@@ -14,7 +14,7 @@ ghost use Rattle.gb_groups.specs.Groups.{lists_of, pairs_of};
 ghost use Rattle.gb_groups.specs.GroupsType.{groups_of};
 ghost use Rattle.gb_paths.specs.Numbers.{AreMembers, same_slot_at};
 ghost use Rattle.gb_paths.specs.Partitions.{AreListed, groups_of_parts};
-ghost use Rattle.gb_paths.specs.Tuples.{number_slots};
+ghost use Rattle.gb_paths.specs.Tuples.{key_slots};
 
 use crate::partitions::partition_rows;
 use crate::row_groups::group_members;
@@ -82,7 +82,7 @@ pub fn group_by_threaded_slice<
     requires row_type { IsSync T.row }
     requires few { length keys.now < 2 ^ 32 }
     requires some { 1 ≤ n_partitions }
-    ensures ok { IfOk result (λ g. groups_of g ≡ record { pairs = threaded_groups (same_slot (number_slots K.number keys.now)) (λ i. hash_of K.width (M.seed_of mixer) (M.mix_of mixer) (slot_at (number_slots K.number keys.now) i)) n_partitions sorted (rows_below (length keys.now)); form = Idx; flagged = sorted }) }
+    ensures ok { IfOk result (λ g. groups_of g ≡ record { pairs = threaded_groups (same_slot (key_slots K.number keys.now)) (λ i. hash_of K.width (M.seed_of mixer) (M.mix_of mixer) (slot_at (key_slots K.number keys.now) i)) n_partitions sorted (rows_below (length keys.now)); form = Idx; flagged = sorted }) }
     ensures err { IfErr result IsNoMemory }
 {
     let rows = SliceRows::new(keys, mixer);

@@ -33,7 +33,8 @@ impl Model for DataFrame {
 
 impl DataFrame {
     ghost use Rattle.gb_series.specs.Frame.{frame_fault, missing_column};
-    ghost use Rattle.gb_series.specs.Series.{taken, value_of};
+    ghost use Rattle.gb_series.specs.Series.{value_of};
+    ghost use Rattle.gb_defs.specs.Column.{taken};
 
     /// The frame of these columns, unless two have one name or their lengths differ.
     pub fn new(columns: Vec<Column>) -> PolarsResult<DataFrame>

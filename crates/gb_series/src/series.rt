@@ -21,7 +21,8 @@ pub enum Series {
 pub type Column = Series;
 
 impl Series {
-    ghost use Rattle.gb_series.specs.Series.{taken, value_of};
+    ghost use Rattle.gb_series.specs.Series.{value_of};
+    ghost use Rattle.gb_defs.specs.Column.{taken};
 
     pub fn name(&self) -> &PlSmallStr
         ensures { name_of result.now ≡ (value_of self.now).name }

@@ -2,7 +2,8 @@ use Rattle.std.proofs.Common.{◌≡◌, ◌<◌, ◌^◌, ◌∙◌, sym, ap, m
 use Rattle.std.proofs.lemmas.List.{get_or-map, length-map, take_all}
 use Rattle.gb_defs.specs.Column.{Frame, frame_height}
 use Rattle.gb_series.specs.Frame.{IsSmallFrame}
-use Rattle.gb_series.specs.Series.{taken, value_of}
+use Rattle.gb_series.specs.Series.{value_of}
+use Rattle.gb_defs.specs.Column.{taken}
 use Rattle.gb_series.proofs.FrameLemmas.{long_at, taken_height, taken_is}
 use Rattle.gb_series.proofs.frame.DataFrame.take.Goals as goal
 

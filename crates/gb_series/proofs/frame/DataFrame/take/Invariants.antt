@@ -1,5 +1,6 @@
 use Rattle.std.proofs.Common.{◌≡◌, map, take}
-use Rattle.gb_series.specs.Series.{taken, value_of}
+use Rattle.gb_series.specs.Series.{value_of}
+use Rattle.gb_defs.specs.Column.{taken}
 use Rattle.gb_series.proofs.frame.DataFrame.take.Given as goal
 
 abbrev pub invariant-loop-column : goal.invariant-loop-column
