@@ -2,6 +2,7 @@ pub mod Folds
 pub mod Grouping
 pub mod Head
 pub mod Plain
+pub mod Refusal
 pub mod Request
 pub mod Run
 pub mod Status

@@ -1,10 +1,13 @@
 -- The exit status, and the status that an error comes to.
 use Rattle.std.specs.Prelude.{◌≡◌, ◌≢◌, ℕ, List, Option, Some, None}
 use Rattle.gb_defs.specs.Fault as fault
+use Rattle.gb_defs.specs.Table as table
 use Rattle.gb_cols.specs.PolarsError.{cause_of}
 use Rattle.gb_cols.specs.PlSmallStr.{name_of}
 use Rattle.gb_cols.specs.declared.error.PolarsError.{PolarsError}
 use Rattle.gb_cols.specs.declared.error.PolarsError.TheVariants as polars
+use Rattle.gb_tool.specs.declared.status.TableFault.{TableFault}
+use Rattle.gb_tool.specs.declared.status.TableFault.TheVariants.{NoHeader, SameName, Ragged, BadCell}
 use Rattle.gb_tool.specs.declared.status.TableError.{TableError}
 use Rattle.gb_tool.specs.declared.status.TableError.TheVariants as error
 use Rattle.gb_tool.specs.declared.status.Status.{Status}
@@ -20,6 +23,13 @@ code_of ReadFault = 5
 code_of WriteFault = 6
 code_of TooLong = 7
 code_of NoMemory = 9
+
+-- the fault of the definitions that a table's fault is
+abbrev pub fault_value : TableFault → table.TableFault
+fault_value NoHeader = table.NoHeader
+fault_value (SameName column) = table.SameName column
+fault_value (Ragged row found wanted) = table.Ragged row found wanted
+fault_value (BadCell row column) = table.BadCell row column
 
 abbrev pub of_table : TableError → Status
 of_table (error.Fault fault) = Table fault

@@ -9,19 +9,6 @@ use Rattle.gb_defs.specs.Table.{Head, heads_of, columns_from, if_all_read}
 use Rattle.gb_defs.specs.Table as table
 use Rattle.gb_cols.specs.Column.{pushed}
 use Rattle.std.specs.Prelude.{Result, Ok, Err}
-use Rattle.gb_tool.specs.declared.status.TableError.{TableError}
-use Rattle.gb_tool.specs.declared.status.TableError.TheVariants.{Fault, NoMemory}
-use Rattle.gb_tool.specs.declared.status.TableFault.{TableFault}
-use Rattle.gb_tool.specs.declared.status.TableFault.TheVariants.{BadCell}
-
--- no place is told today
-abbrev pub IsPlace : TableFault → Option Frame → Type 0
-IsPlace (BadCell row column) read = (row ≡ 0) × (column ≡ 0) × (read ≡ None)
-
--- the error of a table that reads as no frame, or for want of memory
-abbrev pub IsRefusedTable : TableError → Option Frame → Type 0
-IsRefusedTable (Fault fault) read = IsPlace fault read
-IsRefusedTable NoMemory read = Unit {0}
 
 -- there is room for one slot more
 abbrev pub HasRoom : ColumnValue → Type 0

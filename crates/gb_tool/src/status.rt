@@ -1,19 +1,29 @@
+//! How a run of the program ends, and why a table is refused.
+
 ghost use Rattle.std.specs.Prelude.{◌≡◌};
 
 use gb_cols::error::PolarsError;
 use std::alloc::AllocError;
 use thiserror::Error;
 
-/// Where a table's text is at fault. Today the row and the column are not told apart: both are 0.
+/// Where a table's text is at fault. Rows count from 0, the header, and columns from 1.
 #[derive(Clone, Copy, Debug, PartialEq, Eq)]
 pub enum TableFault {
+    /// There is no record.
+    NoHeader,
+    /// The column whose name stood before.
+    SameName(u64),
+    /// The row, its fields, and the fields that are wanted.
+    Ragged(u64, u64, u64),
+    /// The row and the column of a cell that does not read; of the header, a field that is no text or
+    /// names a type that is not read yet.
     BadCell(u64, u64),
 }
 
 /// Why a table was not read.
 #[derive(Debug, Drop, Error)]
 pub enum TableError {
-    #[error("bad cell")]
+    #[error("table")]
     Fault(TableFault),
     #[error("no memory")]
     NoMemory,
