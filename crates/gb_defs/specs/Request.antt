@@ -70,15 +70,11 @@ pub record Given : Type 0 where
 abbrev pub nothing : Given
 nothing = record { by = []; aggs = []; numbers = no_numbers; null_word = None; explain = false }
 
--- the keys with one more, which is the only one today
-abbrev pub with_name : List ℕ → List (List ℕ) → Option (List (List ℕ))
-with_name word [] = Some (word ∷ [])
-with_name word (name ∷ names) = None
-
+-- with a key more
 abbrev pub with_key : List ℕ → Given → Option Given
-with_key word g = option_map (λ names. record g { by = names }) (with_name word g.by)
+with_key word g = Some (record g { by = g.by ++ word ∷ [] })
 
--- only aggregates may come again
+-- with an aggregate more
 abbrev pub with_agg : List ℕ → Given → Option Given
 with_agg word g = option_map (λ agg. record g { aggs = g.aggs ++ agg ∷ [] }) (agg_of word)
 
@@ -88,13 +84,16 @@ with_null_word word g = option_map (λ v. record g { null_word = Some v }) (once
 abbrev pub with_explain : Given → Option Given
 with_explain g = if g.explain then None else Some (record g { explain = true })
 
+abbrev pub with_numbers : List ℕ → List ℕ → Given → Option Given
+with_numbers option word g = option_map (λ n. record g { numbers = n }) (with_number option word g.numbers)
+
 -- an option with its value
 unfoldable pub with_option : List ℕ → List ℕ → Given → Option Given
 with_option option word g =
     if bytes_eq option (codes "--by") then with_key word g
     else if bytes_eq option (codes "--agg") then with_agg word g
     else if bytes_eq option (codes "--null") then with_null_word word g
-    else option_map (λ n. record g { numbers = n }) (with_number option word g.numbers)
+    else with_numbers option word g
 
 unfoldable pub given_from : List (List ℕ) → Given → Option Given
 given_from [] g = Some g
@@ -119,13 +118,14 @@ options_of n null_word explain =
 abbrev pub default_options : ToolOptions
 default_options = options_of no_numbers [] false
 
--- the keys, where there is one
-abbrev pub some_names : List (List ℕ) → Option (List (List ℕ))
-some_names [] = None
-some_names (name ∷ names) = Some (name ∷ names)
+-- the keys that are asked for: today exactly one
+abbrev pub asked_keys : List (List ℕ) → Option (List (List ℕ))
+asked_keys [] = None
+asked_keys (name ∷ []) = Some (name ∷ [])
+asked_keys (name ∷ other ∷ names) = None
 
 abbrev pub group_of : Given → Option Request
-group_of g = option_map (λ names. Group names g.aggs (options_of g.numbers (unwrap_or g.null_word []) g.explain)) (some_names g.by)
+group_of g = option_map (λ names. Group names g.aggs (options_of g.numbers (unwrap_or g.null_word []) g.explain)) (asked_keys g.by)
 
 unfoldable pub request : List (List ℕ) → Option Request
 request [] = None

@@ -7,7 +7,7 @@ use Rattle.gb_groups.specs.Groups.{lists_of}
 use Rattle.gb_defs.specs.Slot.{Slot, Nil, Num}
 use Rattle.gb_defs.specs.ColumnType.{ColumnType, uint32}
 use Rattle.gb_defs.specs.Answer.{aggregated, answer_name}
-use Rattle.gb_tool.specs.Folds.{sum_of, valid_count}
+use Rattle.gb_tool.specs.Folds.{fold_in}
 use Rattle.gb_defs.specs.Column.{ColumnValue, content, fresh_column}
 use Rattle.gb_defs.specs.Fold.{Sum, Count, fold_picked, fold_of, number_slot, sum_type, wrap, total, valid}
 use Rattle.gb_defs.proofs.FoldLemmas.{sum_push_null, sum_push_value}
@@ -17,21 +17,15 @@ use Rattle.gb_tool.proofs.PushLemmas.{pushed_plain}
 
 -- the columns are the aggregates
 module _ (name : List ℕ) (c : ColumnValue) (lists : List (List ℕ)) where
-  pub sums_are : content (fresh_column (answer_name name Sum) (sum_type c.dtype) (map (sum_of c) lists)) ≡ aggregated (name, Sum) (Some c) lists
-  unfolding fold_picked
+  pub sums_are : content (fresh_column (answer_name name Sum) (sum_type c.dtype) (map (fold_in Sum c) lists)) ≡ aggregated (name, Sum) (Some c) lists
   sums_are = refl
 
-  pub counts_are : (all : Bool) → content (fresh_column (answer_name name (Count all)) uint32 (map (fold_of (Count all) c.dtype c.slots) lists)) ≡ aggregated (name, Count all) (Some c) lists
+  pub counts_are : (all : Bool) → content (fresh_column (answer_name name (Count all)) uint32 (map (fold_in (Count all) c) lists)) ≡ aggregated (name, Count all) (Some c) lists
   counts_are all = refl
 
-  -- how the two counts fold
-  pub counted_rows : (λ (rows : List ℕ). number_slot (length rows)) ≡ fold_of (Count true) c.dtype c.slots
+  pub counted_rows : (λ (rows : List ℕ). number_slot (length rows)) ≡ fold_in (Count true) c
   unfolding fold_picked
   counted_rows = refl
-
-  pub counted_valid : valid_count c.slots ≡ fold_of (Count false) c.dtype c.slots
-  unfolding fold_picked
-  counted_valid = refl
 
 -- one slot more of a sum
 pub sum_next : {N : Type 0} (number : N → ℤ) (t : ColumnType) (slot : Option N) (before after : N) (ss : List Slot) →

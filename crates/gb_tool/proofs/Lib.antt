@@ -1,9 +1,12 @@
+pub mod AggLemmas
+pub mod CauseLemmas
 pub mod CellLemmas
 pub mod DeviceLemmas
 pub mod FoldingLemmas
 pub mod GroupingLemmas
 pub mod HeadLemmas
 pub mod HeaderLemmas
+pub mod PartLemmas
 pub mod PlainLemmas
 pub mod PushLemmas
 pub mod ReadingLemmas

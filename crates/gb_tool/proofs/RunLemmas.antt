@@ -1,6 +1,5 @@
 -- What the cause of a status says: of an input past the limit, and of an error of the grouping.
 use Rattle.std.proofs.Common.{◌≡◌, ◌<◌, ◌≤◌, ◌⊎◌, ℕ, List, [], ◌∷◌, length, Some, inl, inr, refl, subst, arith}
-use Rattle.std.specs.Prelude.{IsSome}
 use Rattle.gb_defs.specs.Fault as fault
 use Rattle.gb_defs.specs.Request as asked
 use Rattle.gb_defs.specs.Outcome.{Outcome, BadTable, BadGroup, Report}
@@ -11,27 +10,28 @@ use Rattle.gb_cols.specs.declared.error.PolarsError.TheVariants.{ColumnNotFound,
 use Rattle.gb_tool.specs.declared.status.Status.{Status}
 use Rattle.gb_tool.specs.declared.status.Status.TheVariants.{Done, Usage, Table, Group, ReadFault, WriteFault, TooLong, NoMemory}
 use Rattle.gb_tool.specs.Run.{Comes, HasCause, IsOneOf, Run}
+use Rattle.gb_tool.specs.Status.{fault_value}
 
-module _ (run : Run) (q : asked.Request) (bytes : List ℕ) (e : run.request ≡ Some q) (t : run.input ≡ Some bytes) (long : run.limit < length bytes) where
+module _ (run : Run) (q : asked.Request) (bytes : List ℕ) (e : run.task.request ≡ Some q) (t : run.task.input ≡ Some bytes) (long : run.task.limit < length bytes) where
   -- an outcome comes of an input within the limit
-  short : {B : Type 0} (o : Outcome) → Comes run.request run.input run.limit o → B
-  short o c = let few : length bytes ≤ run.limit = (c q bytes e t).0 in absurd (omega arith)
+  short : {B : Type 0} (o : Outcome) → Comes run.task o → B
+  short o c = let few : length bytes ≤ run.task.limit = (c.comes q bytes e t).0 in absurd (omega arith)
 
   pub long_input : (s : Status) → HasCause run s → IsOneOf (TooLong ∷ ReadFault ∷ NoMemory ∷ []) s
-  long_input Done h = short (Report h.0) h.1.comes
-  long_input Usage h = cc (h.0)
-  long_input (Table fault) h = short BadTable h.1
+  long_input Done h = short (Report h.0) h.1
+  long_input Usage h = cc
+  long_input (Table fault) h = short (BadTable (fault_value fault)) h
   long_input (Group x) h = short (BadGroup h.0) h.2
   long_input ReadFault h = inr (inl refl)
-  long_input WriteFault h = short (Report h.0) h.1.comes
+  long_input WriteFault h = short (Report h.0.0) h.0.1
   long_input TooLong h = inl refl
   long_input NoMemory h = inr (inr (inl refl))
 
 module _ (run : Run) (s : Status) (cause : HasCause run s) where
-  pub missing_named : (name : PlSmallStr) → s ≡ Group (ColumnNotFound name) → IsSome run.request × Comes run.request run.input run.limit (BadGroup (fault.ColumnNotFound (name_of name)))
+  pub missing_named : (name : PlSmallStr) → s ≡ Group (ColumnNotFound name) → Comes run.task (BadGroup (fault.ColumnNotFound (name_of name)))
   missing_named name e =
       let h : HasCause run (Group (ColumnNotFound name)) = subst (HasCause run) e cause in
-      (h.3.some, subst (λ f. Comes run.request run.input run.limit (BadGroup f)) h.1 h.2)
+      subst (λ f. Comes run.task (BadGroup f)) h.1 h.2
 
   pub errors_told : (e : PolarsError) → s ≡ Group e → (e ≡ ComputeError) ⊎ ((name : PlSmallStr) × (e ≡ ColumnNotFound name))
   errors_told e is = told e (subst (HasCause run) is cause)

@@ -1,18 +1,31 @@
--- Lists of rows, and counts over them.
-use Rattle.std.specs.Prelude.{ℕ, ◌≤◌, ◌<◌, ◌==◌, List, length, All, if◌then◌else◌}
-use Rattle.gb_defs.specs.Slot.{Slot, Nil, Num}
-use Rattle.gb_defs.specs.Column.{ColumnValue}
-use Rattle.gb_defs.specs.Fold.{number_slot, picked, total, valid, wrap}
+-- Lists of rows, and folds over them.
+use Rattle.std.specs.Prelude.{ℕ, ◌≤◌, ◌<◌, List, length, map, All, Option, None}
+use Rattle.gb_defs.specs.Slot.{Slot}
+use Rattle.gb_defs.specs.ColumnType.{ColumnType}
+use Rattle.gb_defs.specs.Column.{ColumnValue, fresh_column}
+use Rattle.gb_defs.specs.Fold.{Method, fold_of}
+use Rattle.gb_defs.specs.Fault.{Fault, unfit_operation, unfit_or}
+use Rattle.gb_cols.specs.PlSmallStr.{name_of}
+use Rattle.gb_tool.specs.declared.request.Agg.{Agg}
+use Rattle.gb_tool.specs.Request.{method_of}
 
 -- the rows are below n, and no more than n
 pub record AreRows (n : ℕ) (rows : List ℕ) : Type 0 where
   pub within : All (λ row. row < n) rows
   pub few : length rows ≤ n
 
--- how many of the slots at these rows are valid, null for no rows
-abbrev pub valid_count : List Slot → List ℕ → Slot
-valid_count slots rows = if length rows == 0 then Nil else number_slot (length (valid (picked slots rows)))
+-- the fold of a column over a list of rows
+abbrev pub fold_in : Method → ColumnValue → List ℕ → Slot
+fold_in method c rows = fold_of method c.dtype c.slots rows
 
--- the sum of a column over these rows
-abbrev pub sum_of : ColumnValue → List ℕ → Slot
-sum_of c rows = Num (wrap c.dtype (total (valid (picked c.slots rows))))
+-- a column of what is made of each list of rows
+abbrev pub fold_column : List ℕ → ColumnType → (List ℕ → Slot) → List (List ℕ) → ColumnValue
+fold_column name dtype fold lists = fresh_column name dtype (map fold lists)
+
+-- why an aggregate of a column is refused for the column's type
+abbrev pub unfit_in : List ℕ → Method → ColumnValue → Option Fault
+unfit_in name method c = unfit_or name (unfit_operation method c.dtype) None
+
+-- the same of an aggregate that is asked
+abbrev pub agg_unfit : Agg → ColumnValue → Option Fault
+agg_unfit agg c = unfit_in (name_of agg.column) (method_of agg.method) c

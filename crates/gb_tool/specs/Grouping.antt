@@ -1,20 +1,21 @@
--- Why a frame was not grouped, and the key of the answer.
-use Rattle.std.specs.Prelude.{◌≡◌, ℕ, List, map, Option, Some, None}
-use Rattle.gb_defs.specs.Slot.{slot_at}
-use Rattle.gb_defs.specs.Column.{ColumnValue, Content}
-use Rattle.gb_defs.specs.Fault.{Fault}
-use Rattle.gb_defs.specs.Outcome.{Outcome, BadGroup}
-use Rattle.gb_cols.specs.PolarsError.{cause_of}
-use Rattle.gb_cols.specs.declared.error.PolarsError.{PolarsError}
+-- The columns of an answer over the groups that were found.
+use Rattle.std.specs.Prelude.{ℕ, List, ◌++◌, map, Option, None}
+use Rattle.gb_defs.specs.Column.{ColumnValue, Content, Frame, content, find_column, taken}
+use Rattle.gb_defs.specs.Fold.{Method}
+use Rattle.gb_defs.specs.Answer.{aggregated}
+use Rattle.gb_defs.specs.Fault.{Fault, unfit_at, unfit_or}
+use Rattle.gb_cols.specs.PlSmallStr.{name_of}
+use Rattle.gb_tool.specs.declared.request.Agg.{Agg}
+use Rattle.gb_tool.specs.Request.{method_of}
 
-abbrev pub IsRefusedFor : Option Fault → Outcome → Type 0
-IsRefusedFor None o = Unit {0}
-IsRefusedFor (Some cause) o = o ≡ BadGroup cause
+-- each aggregate over the rows of each group
+abbrev pub aggregates_over : Frame → List (List ℕ × Method) → List (List ℕ) → List Content
+aggregates_over frame aggs lists = map (λ agg. aggregated agg (find_column frame agg.0) lists) aggs
 
--- the error is want of memory, or it names the fault of the grouping
-abbrev pub IsRefusal : PolarsError → Outcome → Type 0
-IsRefusal e o = IsRefusedFor (cause_of e) o
+-- the keys at the first rows of the groups, and the aggregates over their rows
+abbrev pub answer_parts : Frame → List ColumnValue → List (List ℕ × Method) → List ℕ → List (List ℕ) → List Content
+answer_parts frame keys aggs rows lists = map (λ key. content (taken rows key)) keys ++ aggregates_over frame aggs lists
 
--- the key at these rows
-abbrev pub key_part : ColumnValue → List ℕ → Content
-key_part key rows = record { name = key.name; dtype = key.dtype; slots = map (slot_at key.slots) rows }
+-- why an aggregate is refused for the type of its column
+abbrev pub unfit_cause : Frame → Agg → Option Fault
+unfit_cause frame agg = unfit_or (name_of agg.column) (unfit_at (method_of agg.method) (find_column frame (name_of agg.column))) None

@@ -1,8 +1,9 @@
 -- What contracts see of a request.
-use Rattle.std.specs.Prelude.{◌≡◌, ℕ, List, length, map}
+use Rattle.std.specs.Prelude.{◌≡◌, ℕ, List, [], ◌∷◌, length, map}
 use Rattle.gb_defs.specs.Fold as fold
 use Rattle.gb_defs.specs.Request as request
 use Rattle.gb_cols.specs.PlSmallStr.{name_of}
+use Rattle.gb_cols.specs.declared.small_str.PlSmallStr.{PlSmallStr}
 use Rattle.gb_tool.specs.declared.request.GroupByMethod.{GroupByMethod}
 use Rattle.gb_tool.specs.declared.request.GroupByMethod.TheVariants.{Sum, Count}
 use Rattle.gb_tool.specs.declared.request.Agg.{Agg}
@@ -25,6 +26,10 @@ options_of o = record { workers = o.workers; partitions = o.partitions; piece = 
 
 abbrev pub request_of : Request → request.Request
 request_of (Group by aggs options) = request.Group (map name_of by.items) (aggs_of aggs.items) (options_of options)
+
+-- a grouping by one key
+abbrev pub group_by : PlSmallStr → List Agg → ToolOptions → request.Request
+group_by by aggs options = request.Group (name_of by ∷ []) (aggs_of aggs) (options_of options)
 
 -- one key is asked
 abbrev pub HasOneKey : request.Request → Type 0

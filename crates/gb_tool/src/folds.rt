@@ -1,18 +1,19 @@
 //! The columns of an answer: each aggregate over the rows of each group.
 
-ghost use Rattle.std.specs.Prelude.{◌≡◌, ℕ, ◌+◌, ◌<◌, ◌≤◌, ◌^◌, List, map, length, All, None, Some, IfOk, IfErr, OnOk, MatchOption, ◌+ℤ◌, not, true};
-ghost use Rattle.gb_defs.specs.Slot.{Num, is_nil, slot_at};
+ghost use Rattle.std.specs.Prelude.{◌≡◌, ℕ, ◌<◌, List, length, All, None, Some, IfOk, IfErr, OnOk, MatchOption, ◌+ℤ◌, not, true, false};
+ghost use Rattle.gb_defs.specs.Slot.{is_nil, slot_at};
 ghost use Rattle.gb_defs.specs.ColumnType.{text, uint32};
-ghost use Rattle.gb_defs.specs.Column.{content, fresh_column};
+ghost use Rattle.gb_defs.specs.Column.{content};
 ghost use Rattle.gb_defs.specs.Fold.{wrap, total, valid, picked, number_slot, sum_type, fold_of, Sum, Count};
+ghost use Rattle.gb_defs.specs.Groups.{HasRowNumbers};
 ghost use Rattle.gb_defs.specs.Answer.{aggregated, answer_name};
-ghost use Rattle.gb_defs.specs.Fault.{has_sum, unfit_operation, unfit_or, InvalidOperation, OfSum};
+ghost use Rattle.gb_defs.specs.Fault.{has_sum, InvalidOperation, OfSum};
 ghost use Rattle.gb_cols.specs.PolarsError.{Explains};
 ghost use Rattle.gb_cols.specs.PlSmallStr.{name_of, IsNoMemory};
 ghost use Rattle.gb_cols.specs.Array.{number_slot_of};
 ghost use Rattle.gb_groups.specs.Groups.{lists_of};
 ghost use Rattle.gb_series.specs.Series.{value_of};
-ghost use Rattle.gb_tool.specs.Folds.{AreRows, sum_of, valid_count};
+ghost use Rattle.gb_tool.specs.Folds.{AreRows, agg_unfit, fold_column, fold_in, unfit_in};
 ghost use Rattle.gb_tool.specs.Request.{agg_of, method_of};
 
 use crate::request::{Agg, GroupByMethod};
@@ -33,11 +34,12 @@ pub fn aggregate(
     lists: &[IdxVec],
 ) -> PolarsResult<Series>
     requires rows { All (AreRows (length (value_of column.now).slots)) (lists_of lists.now) }
-    requires few { length lists.now < 2 ^ 32 }
-    requires short { length (value_of column.now).slots < 2 ^ 32 }
-    ensures fits { OnOk result (unfit_operation (method_of agg.now.method) (value_of column.now).dtype ≡ None) }
-    ensures ok { IfOk result (λ s. content (value_of s) ≡ aggregated (agg_of agg.now) (Some (value_of column.now)) (lists_of lists.now)) }
-    ensures err { IfErr result (λ e. Explains e (unfit_or (name_of agg.now.column) (unfit_operation (method_of agg.now.method) (value_of column.now).dtype) None)) }
+    requires few { HasRowNumbers (length lists.now) }
+    requires short { HasRowNumbers (length (value_of column.now).slots) }
+    ensures fits { OnOk result (agg_unfit agg.now (value_of column.now) ≡ None) }
+    ensures ok { IfOk result (λ s. content (value_of s)
+        ≡ aggregated (agg_of agg.now) (Some (value_of column.now)) (lists_of lists.now)) }
+    ensures err { IfErr result (λ e. Explains e (agg_unfit agg.now (value_of column.now))) }
 {
     let name = name_of_answer(alloc, agg)?;
     match agg.method {
@@ -54,7 +56,8 @@ pub fn aggregate(
 
 // The name of an aggregate's column.
 fn name_of_answer(alloc: Global, agg: &Agg) -> PolarsResult<PlSmallStr>
-    ensures ok { IfOk result (λ name. name_of name ≡ answer_name (name_of agg.now.column) (method_of agg.now.method)) }
+    ensures ok { IfOk result (λ name. name_of name
+        ≡ answer_name (name_of agg.now.column) (method_of agg.now.method)) }
     ensures err { IfErr result IsNoMemory }
 {
     let suffix = match agg.method {
@@ -74,10 +77,11 @@ fn column_sums(
     lists: &[IdxVec],
 ) -> PolarsResult<Series>
     requires rows { All (AreRows (length (value_of column.now).slots)) (lists_of lists.now) }
-    requires few { length lists.now < 2 ^ 32 }
+    requires few { HasRowNumbers (length lists.now) }
     ensures fits { OnOk result (has_sum (value_of column.now).dtype ≡ true) }
-    ensures ok { IfOk result (λ s. value_of s ≡ fresh_column (name_of name) (sum_type (value_of column.now).dtype) (map (sum_of (value_of column.now)) (lists_of lists.now))) }
-    ensures err { IfErr result (λ e. Explains e (unfit_or (name_of asked.now) (unfit_operation Sum (value_of column.now).dtype) None)) }
+    ensures ok { IfOk result (λ s. value_of s ≡ fold_column (name_of name)
+        (sum_type (value_of column.now).dtype) (fold_in Sum (value_of column.now)) (lists_of lists.now)) }
+    ensures err { IfErr result (λ e. Explains e (unfit_in (name_of asked.now) Sum (value_of column.now))) }
 {
     match column {
         Series::UInt32(numbers) => Ok(Series::UInt32(sums(name, numbers, lists)?)),
@@ -104,9 +108,10 @@ fn sums<T: PolarsNumericType>(
     lists: &[IdxVec],
 ) -> PolarsResult<ChunkedArray<PrimitiveArray<T>>>
     requires rows { All (AreRows (length column.now.slots)) (lists_of lists.now) }
-    requires few { length lists.now < 2 ^ 32 }
+    requires few { HasRowNumbers (length lists.now) }
     ensures typed { column.now.dtype ≡ T.dtype }
-    ensures ok { IfOk result (λ c. c ≡ fresh_column (name_of name) T.dtype (map (λ rows. Num (wrap T.dtype (total (valid (picked column.now.slots rows))))) (lists_of lists.now))) }
+    ensures ok { IfOk result (λ c. c ≡ fold_column (name_of name) T.dtype
+        (fold_of Sum T.dtype column.now.slots) (lists_of lists.now)) }
     ensures err { IfErr result IsNoMemory }
 {
     let mut sums: ChunkedArray<PrimitiveArray<T>> = ChunkedArray::new(column.allocator(), name);
@@ -131,7 +136,8 @@ fn sum_at<T: PolarsNumericType>(column: &ChunkedArray<PrimitiveArray<T>>, rows: 
 
 // The sum with one slot more.
 fn with_slot<T: PolarsNumericType>(sum: T::Native, slot: Option<T::Native>) -> T::Native
-    ensures { MatchOption slot (result ≡ sum) (λ n. T.number result ≡ wrap T.dtype (T.number sum +ℤ T.number n)) }
+    ensures { MatchOption slot (result ≡ sum)
+        (λ n. T.number result ≡ wrap T.dtype (T.number sum +ℤ T.number n)) }
 {
     match slot {
         Some(number) => T::wrapping_add(sum, number),
@@ -148,23 +154,25 @@ fn column_counts(
     lists: &[IdxVec],
 ) -> PolarsResult<UInt32Chunked>
     requires rows { All (AreRows (length (value_of column.now).slots)) (lists_of lists.now) }
-    requires few { length lists.now < 2 ^ 32 }
-    requires short { length (value_of column.now).slots < 2 ^ 32 }
-    ensures ok { IfOk result (λ c. c ≡ fresh_column (name_of name) uint32 (map (fold_of (Count include_nulls) (value_of column.now).dtype (value_of column.now).slots) (lists_of lists.now))) }
+    requires few { HasRowNumbers (length lists.now) }
+    requires short { HasRowNumbers (length (value_of column.now).slots) }
+    ensures ok { IfOk result (λ c. c ≡ fold_column (name_of name) uint32
+        (fold_in (Count include_nulls) (value_of column.now)) (lists_of lists.now)) }
     ensures err { IfErr result IsNoMemory }
 {
     if include_nulls {
-        row_counts(alloc, name, lists)
+        list_lengths(alloc, name, lists)
     } else {
         valid_counts(alloc, name, column, lists)
     }
 }
 
 // The length of each list.
-fn row_counts(alloc: Global, name: PlSmallStr, lists: &[IdxVec]) -> PolarsResult<UInt32Chunked>
-    requires short { All (λ (rows : List ℕ). length rows < 2 ^ 32) (lists_of lists.now) }
-    requires few { length lists.now < 2 ^ 32 }
-    ensures ok { IfOk result (λ c. c ≡ fresh_column (name_of name) uint32 (map (λ rows. number_slot (length rows)) (lists_of lists.now))) }
+fn list_lengths(alloc: Global, name: PlSmallStr, lists: &[IdxVec]) -> PolarsResult<UInt32Chunked>
+    requires short { All (λ (rows : List ℕ). HasRowNumbers (length rows)) (lists_of lists.now) }
+    requires few { HasRowNumbers (length lists.now) }
+    ensures ok { IfOk result (λ c. c ≡ fold_column (name_of name) uint32
+        (λ rows. number_slot (length rows)) (lists_of lists.now)) }
     ensures err { IfErr result IsNoMemory }
 {
     let mut counts = UInt32Chunked::new(alloc, name);
@@ -183,9 +191,10 @@ fn valid_counts(
     lists: &[IdxVec],
 ) -> PolarsResult<UInt32Chunked>
     requires rows { All (AreRows (length (value_of column.now).slots)) (lists_of lists.now) }
-    requires few { length lists.now < 2 ^ 32 }
-    requires short { length (value_of column.now).slots < 2 ^ 32 }
-    ensures ok { IfOk result (λ c. c ≡ fresh_column (name_of name) uint32 (map (valid_count (value_of column.now).slots) (lists_of lists.now))) }
+    requires few { HasRowNumbers (length lists.now) }
+    requires short { HasRowNumbers (length (value_of column.now).slots) }
+    ensures ok { IfOk result (λ c. c ≡ fold_column (name_of name) uint32
+        (fold_in (Count false) (value_of column.now)) (lists_of lists.now)) }
     ensures err { IfErr result IsNoMemory }
 {
     let mut counts = UInt32Chunked::new(alloc, name);
@@ -204,7 +213,7 @@ fn valid_counts(
 // The number of valid slots at these rows.
 fn valid_at(column: &Series, rows: &[u32]) -> u32
     requires rows { AreRows (length (value_of column.now).slots) rows.now }
-    requires short { length (value_of column.now).slots < 2 ^ 32 }
+    requires short { HasRowNumbers (length (value_of column.now).slots) }
     ensures { result ≡ length (valid (picked (value_of column.now).slots rows.now)) }
 {
     let mut count = 0;

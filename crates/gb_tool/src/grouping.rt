@@ -1,21 +1,22 @@
 //! From a frame to the frame of its groups: one row for each class of rows whose keys agree.
 
-ghost use Rattle.std.specs.Prelude.{◌≡◌, ℕ, ◌<◌, ◌^◌, List, [], ◌∷◌, map, length, All, None, false, is_none, IfOk, IfErr, OnOk};
-ghost use Rattle.std.specs.Thread.{IsSync};
-ghost use Rattle.gb_defs.specs.Column.{ColumnValue, IsFrame, content, find_column, frame_height};
-ghost use Rattle.gb_defs.specs.Fault.{rows_fault, missing_fault, unfit_at, unfit_fault, unfit_or};
+ghost use Rattle.std.specs.Prelude.{◌≡◌, ℕ, ◌<◌, List, [], ◌∷◌, map, length, All, None, Ok, Some, false, is_none, IfOk, IfErr, OnOk};
+ghost use Rattle.std.specs.Result.{result_err};
+ghost use Rattle.gb_defs.specs.Column.{IsFrame, content, find_column, frame_height};
+ghost use Rattle.gb_defs.specs.Fault.{rows_fault, missing_fault, unfit_fault};
 ghost use Rattle.gb_defs.specs.Answer.{aggregated};
-ghost use Rattle.gb_defs.specs.Outcome.{Report, find_columns, outcome_by_keys};
-ghost use Rattle.gb_defs.specs.Text.{frame_text};
+ghost use Rattle.gb_defs.specs.Outcome.{grouped};
 ghost use Rattle.gb_cols.specs.PolarsError.{Explains};
 ghost use Rattle.gb_defs.specs.Classes.{groups, rows_below, same_slot};
+ghost use Rattle.gb_defs.specs.Groups.{HasRowNumbers};
 ghost use Rattle.gb_cols.specs.PlSmallStr.{IsNoMemory, name_of};
 ghost use Rattle.gb_groups.specs.GroupsType.{groups_of};
 ghost use Rattle.gb_groups.specs.Groups.{lists_of};
 ghost use Rattle.gb_series.specs.Series.{value_of};
 ghost use Rattle.gb_tool.specs.Folds.{AreRows};
-ghost use Rattle.gb_tool.specs.Grouping.{IsRefusal, key_part};
-ghost use Rattle.gb_tool.specs.Request.{agg_of, aggs_of, method_of};
+ghost use Rattle.gb_tool.specs.Grouping.{answer_parts, unfit_cause};
+ghost use Rattle.gb_tool.specs.Request.{agg_of, aggs_of};
+ghost use Rattle.gb_tool.specs.Text.{contents_of};
 
 use crate::folds::aggregate;
 use crate::request::Agg;
@@ -41,11 +42,32 @@ pub fn group_frame<R: Threads + Sync, G: Gate + Sync>(
     pool: &Pool,
     gate: &G,
 ) -> PolarsResult<DataFrame>
-    requires row_type { IsSync R.row }
-    ensures ok { IfOk result (λ answer. (null_word : List ℕ) → outcome_by_keys frame.now (aggs_of aggs.now) null_word (find_columns frame.now (name_of by.now ∷ [])) ≡ Report (frame_text (map content answer) null_word)) }
-    ensures err { IfErr result (λ e. (null_word : List ℕ) → IsRefusal e (outcome_by_keys frame.now (aggs_of aggs.now) null_word (find_columns frame.now (name_of by.now ∷ [])))) }
+    ensures ok { IfOk result (λ answer.
+        grouped frame.now (name_of by.now ∷ []) (aggs_of aggs.now) ≡ Ok (map content answer)) }
+    ensures err { IfErr result (λ e.
+        Explains e (result_err (grouped frame.now (name_of by.now ∷ []) (aggs_of aggs.now)))) }
 {
     let key = frame.column(by.as_str())?;
+    group_by_key(rt, alloc, frame, by, key, aggs, pool, gate)
+}
+
+// The same, by the key of that name.
+fn group_by_key<R: Threads + Sync, G: Gate + Sync>(
+    rt: &R,
+    alloc: Global,
+    frame: &DataFrame,
+    by: &PlSmallStr,
+    key: &Series,
+    aggs: &[Agg],
+    pool: &Pool,
+    gate: &G,
+) -> PolarsResult<DataFrame>
+    requires { find_column frame.now (name_of by.now) ≡ Some (value_of key.now) }
+    ensures ok { IfOk result (λ answer.
+        grouped frame.now (name_of by.now ∷ []) (aggs_of aggs.now) ≡ Ok (map content answer)) }
+    ensures err { IfErr result (λ e.
+        Explains e (result_err (grouped frame.now (name_of by.now ∷ []) (aggs_of aggs.now)))) }
+{
     check_height(frame)?;
     check_columns(frame, aggs)?;
     let groups = key_groups(rt, key, pool, gate)?;
@@ -61,17 +83,19 @@ fn key_groups<R: Threads + Sync, G: Gate + Sync>(
     pool: &Pool,
     gate: &G,
 ) -> PolarsResult<GroupsType>
-    requires row_type { IsSync R.row }
-    requires few { length (value_of key.now).slots < 2 ^ 32 }
-    ensures ok { IfOk result (λ g. (groups_of g).pairs ≡ groups (same_slot (value_of key.now).slots) (rows_below (length (value_of key.now).slots))) }
+    requires few { HasRowNumbers (length (value_of key.now).slots) }
+    ensures ok { IfOk result (λ g. (groups_of g).pairs
+        ≡ groups (same_slot (value_of key.now).slots) (rows_below (length (value_of key.now).slots))) }
     ensures err { IfErr result IsNoMemory }
 {
-    group_tuples_gated(rt, key, true, true, pool, gate)
+    let multithreaded = true;
+    let sorted = true;
+    group_tuples_gated(rt, key, multithreaded, sorted, pool, gate)
 }
 
 // That rows have numbers.
 fn check_height(frame: &DataFrame) -> PolarsResult<()>
-    ensures ok { OnOk result (frame_height frame.now < 2 ^ 32) }
+    ensures ok { OnOk result (HasRowNumbers (frame_height frame.now)) }
     ensures frame { IsFrame frame.now }
     ensures err { IfErr result (λ e. Explains e (rows_fault (frame_height frame.now))) }
 {
@@ -103,12 +127,13 @@ fn answer_columns(
     lists: &[IdxVec],
 ) -> PolarsResult<Vec<Series>>
     requires frame { IsFrame frame.now }
-    requires short { frame_height frame.now < 2 ^ 32 }
+    requires short { HasRowNumbers (frame_height frame.now) }
     requires found { missing_fault frame.now (aggs_of aggs.now) ≡ None }
     requires firsts { All (λ row. row < length (value_of key.now).slots) firsts.now }
     requires rows { All (AreRows (frame_height frame.now)) (lists_of lists.now) }
-    requires few { length lists.now < 2 ^ 32 }
-    ensures ok { IfOk result (λ columns. map (λ s. content (value_of s)) columns.items ≡ key_part (value_of key.now) firsts.now ∷ map (λ agg. aggregated agg (find_column frame.now agg.0) (lists_of lists.now)) (aggs_of aggs.now)) }
+    requires few { HasRowNumbers (length lists.now) }
+    ensures ok { IfOk result (λ columns. contents_of columns.items
+        ≡ answer_parts frame.now (value_of key.now ∷ []) (aggs_of aggs.now) firsts.now (lists_of lists.now)) }
     ensures fits { OnOk result (unfit_fault frame.now (aggs_of aggs.now) ≡ None) }
     ensures err { IfErr result (λ e. Explains e (unfit_fault frame.now (aggs_of aggs.now))) }
 {
@@ -128,13 +153,14 @@ fn found_aggregate(
     lists: &[IdxVec],
 ) -> PolarsResult<Series>
     requires frame { IsFrame frame.now }
-    requires short { frame_height frame.now < 2 ^ 32 }
+    requires short { HasRowNumbers (frame_height frame.now) }
     requires found { is_none (find_column frame.now (name_of agg.now.column)) ≡ false }
     requires rows { All (AreRows (frame_height frame.now)) (lists_of lists.now) }
-    requires few { length lists.now < 2 ^ 32 }
-    ensures ok { IfOk result (λ s. content (value_of s) ≡ aggregated (agg_of agg.now) (find_column frame.now (name_of agg.now.column)) (lists_of lists.now)) }
-    ensures fits { OnOk result (unfit_at (method_of agg.now.method) (find_column frame.now (name_of agg.now.column)) ≡ None) }
-    ensures err { IfErr result (λ e. Explains e (unfit_or (name_of agg.now.column) (unfit_at (method_of agg.now.method) (find_column frame.now (name_of agg.now.column))) None)) }
+    requires few { HasRowNumbers (length lists.now) }
+    ensures ok { IfOk result (λ s. content (value_of s) ≡ aggregated (agg_of agg.now)
+        (find_column frame.now (name_of agg.now.column)) (lists_of lists.now)) }
+    ensures fits { OnOk result (unfit_cause frame.now agg.now ≡ None) }
+    ensures err { IfErr result (λ e. Explains e (unfit_cause frame.now agg.now)) }
 {
     let column = frame.column(agg.column.as_str())?;
     aggregate(alloc, column, agg, lists)

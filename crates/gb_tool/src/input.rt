@@ -1,7 +1,7 @@
 //! Reading the input whole.
 
 ghost use Rattle.std.specs.Prelude.{◌≡◌, ◌≢◌, ◌≤◌, ◌+◌, ◌<◌, [], length, Err, IfErr, IfOk, IfSome, OnOk, Some, vec_len};
-ghost use Rattle.gb_tool.specs.Run.{HasMoved, HasTaken, IsInputFault, IsPieceFault};
+ghost use Rattle.gb_tool.specs.Run.{HasMoved, HasTaken, IsInputFault, IsPieceFault, IsReadToEnd};
 ghost use Rattle.gb_tool.specs.declared.status.Status.TheVariants as status;
 
 use crate::status::Status;
@@ -17,11 +17,14 @@ fn read_piece<S: Source>(
     room: &mut [u8],
     bytes: &mut Vec<u8>,
 ) -> Result<usize, Status>
-    ensures moved { IfOk result (λ count. HasMoved count bytes.old.items bytes.new.items (S.left source.old) (S.left source.new)) }
+    ensures moved { IfOk result (λ count.
+        HasMoved count bytes.old.items bytes.new.items (S.left source.old) (S.left source.new)) }
     ensures fits { IfOk result (λ count. count ≤ length room.old) }
-    ensures ends { IfOk result (λ count. count ≡ 0 → 0 < length room.old → IfSome (S.left source.new) (λ rest. rest ≡ [])) }
+    ensures ends { IfOk result (λ count. count ≡ 0 → 0 < length room.old
+        → IfSome (S.left source.new) (λ rest. rest ≡ [])) }
     ensures err { IfErr result (λ s. IsPieceFault (S.faults source.old) (S.faults source.new) s) }
-    ensures taken { result ≢ Err status.ReadFault → HasTaken (length room.old) (S.left source.old) (S.left source.new) }
+    ensures taken { result ≢ Err status.ReadFault
+        → HasTaken (length room.old) (S.left source.old) (S.left source.new) }
     ensures kept { S.faults source.old ≤ S.faults source.new }
 {
     match source.read(room) {
@@ -39,9 +42,11 @@ pub fn read_all<S: Source>(alloc: Global, source: &mut S, limit: u64) -> Result<
     requires { limit ≤ 4294967295 }
     ensures bytes { IfOk result (λ v. IfSome (S.left source.old) (λ told. v.items ≡ told)) }
     ensures fits { IfOk result (λ v. vec_len v ≤ limit) }
-    ensures ended { OnOk result (IfSome (S.left source.old) (λ _. S.left source.new ≡ Some [])) }
-    ensures err { IfErr result (λ s. IsInputFault (S.faults source.old) (S.faults source.new) limit (S.left source.old) s) }
-    ensures taken { result ≢ Err status.ReadFault → HasTaken (limit + 65536) (S.left source.old) (S.left source.new) }
+    ensures ended { OnOk result (IsReadToEnd (S.left source.old) (S.left source.new)) }
+    ensures err { IfErr result (λ s.
+        IsInputFault (S.faults source.old) (S.faults source.new) limit (S.left source.old) s) }
+    ensures taken { result ≢ Err status.ReadFault
+        → HasTaken (limit + 65536) (S.left source.old) (S.left source.new) }
     ensures kept { S.faults source.old ≤ S.faults source.new }
 {
     let mut room = vec![in alloc; 0; ROOM]?;

@@ -10,7 +10,7 @@ use gb_cols::device::{Failed, Sink};
 
 /// Writes the text. A sink that fails has taken a part of it.
 pub fn write_all<W: Sink>(sink: &mut W, text: &[u8]) -> Result<(), Failed>
-    ensures ok { OnOk result (W.held sink.new ≡ option_map (λ held. held ++ text.now) (W.held sink.old)) }
+    ensures ok { OnOk result (Holds text.now (W.held sink.old) (W.held sink.new)) }
     ensures err { OnErr result (Rose (W.faults sink.old) (W.faults sink.new)) }
     ensures part { OnErr result (HoldsPart text.now (W.held sink.old) (W.held sink.new)) }
     ensures kept { W.faults sink.old ≤ W.faults sink.new }

@@ -1,11 +1,8 @@
 //! The pure middle: from the bytes of a table to the text of the answer.
 
-ghost use Rattle.std.specs.Prelude.{◌≡◌, ◌≤◌, ◌∷◌, [], IfErr, IfOk, length};
-ghost use Rattle.std.specs.Thread.{IsSync};
+ghost use Rattle.std.specs.Prelude.{◌≡◌, ◌≤◌, IfErr, IfOk, length};
 ghost use Rattle.gb_defs.specs.Outcome.{Report, outcome};
-ghost use Rattle.gb_defs.specs.Request.{Group};
-ghost use Rattle.gb_cols.specs.PlSmallStr.{name_of};
-ghost use Rattle.gb_tool.specs.Request.{HasOneKey, aggs_of, options_of, request_of};
+ghost use Rattle.gb_tool.specs.Request.{HasOneKey, group_by, request_of};
 ghost use Rattle.gb_tool.specs.Run.{IsRefusedReport};
 
 use crate::grouping::group_frame;
@@ -38,11 +35,12 @@ pub fn report<R: Threads + Sync, G: Gate + Sync>(
     bytes: &[u8],
     gate: &G,
 ) -> Result<Vec<u8>, Status>
-    requires row_type { IsSync R.row }
     requires few { length bytes.now ≤ 4294967295 }
     requires one_key { HasOneKey (request_of request.now) }
-    ensures ok { IfOk result (λ text. outcome (request_of request.now) bytes.now ≡ Report text.items) }
-    ensures err { IfErr result (λ s. IsRefusedReport s (outcome (request_of request.now) bytes.now)) }
+    ensures ok { IfOk result (λ text.
+        outcome (request_of request.now) bytes.now ≡ Report text.items) }
+    ensures err { IfErr result (λ s.
+        IsRefusedReport s (outcome (request_of request.now) bytes.now)) }
 {
     match request {
         Request::Group { by, aggs, options } => {
@@ -61,10 +59,11 @@ fn group_report<R: Threads + Sync, G: Gate + Sync>(
     bytes: &[u8],
     gate: &G,
 ) -> Result<Vec<u8>, Status>
-    requires row_type { IsSync R.row }
     requires few { length bytes.now ≤ 4294967295 }
-    ensures ok { IfOk result (λ text. outcome (Group (name_of by.now ∷ []) (aggs_of aggs.now) (options_of options.now)) bytes.now ≡ Report text.items) }
-    ensures err { IfErr result (λ s. IsRefusedReport s (outcome (Group (name_of by.now ∷ []) (aggs_of aggs.now) (options_of options.now)) bytes.now)) }
+    ensures ok { IfOk result (λ text.
+        outcome (group_by by.now aggs.now options.now) bytes.now ≡ Report text.items) }
+    ensures err { IfErr result (λ s.
+        IsRefusedReport s (outcome (group_by by.now aggs.now options.now) bytes.now)) }
 {
     let null_word = options.null_word.as_str();
     let frame = table_of(alloc, bytes, null_word)?;

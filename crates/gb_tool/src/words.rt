@@ -19,7 +19,8 @@ use std::alloc::Global;
 
 // What options give, None where there is one that is at fault.
 fn given_from(alloc: Global, options: &[String]) -> PolarsResult<Option<Given>>
-    ensures ok { IfOk result (λ o. option_map given_of o ≡ spelled.given_from (map string_bytes options.now) spelled.nothing) }
+    ensures ok { IfOk result (λ o. option_map given_of o
+        ≡ spelled.given_from (map string_bytes options.now) spelled.nothing) }
     ensures err { IfErr result IsNoMemory }
 {
     let mut given = Given::nothing(alloc);
@@ -48,7 +49,8 @@ fn given_from(alloc: Global, options: &[String]) -> PolarsResult<Option<Given>>
 
 // The defaults filled in.
 fn options_of(numbers: Numbers, null_word: PlSmallStr, explain: bool) -> ToolOptions
-    ensures { made.options_of result ≡ spelled.options_of (numbers_of numbers) (name_of null_word) explain }
+    ensures { made.options_of result
+        ≡ spelled.options_of (numbers_of numbers) (name_of null_word) explain }
 {
     let workers = numbers.workers.unwrap_or(4);
     ToolOptions {
@@ -62,9 +64,10 @@ fn options_of(numbers: Numbers, null_word: PlSmallStr, explain: bool) -> ToolOpt
     }
 }
 
-// The request of what was given, None without a key.
+// The request of what was given, None where there is not exactly one key.
 fn group_of(alloc: Global, given: Given) -> PolarsResult<Option<Request>>
-    ensures ok { IfOk result (λ o. option_map made.request_of o ≡ spelled.group_of (given_of given)) }
+    ensures ok { IfOk result (λ o. option_map made.request_of o
+        ≡ spelled.group_of (given_of given)) }
     ensures err { IfErr result IsNoMemory }
 {
     let Given {
@@ -74,15 +77,13 @@ fn group_of(alloc: Global, given: Given) -> PolarsResult<Option<Request>>
         null_word,
         explain,
     } = given;
-    let Some(name) = by else {
+    if by.len() != 1 {
         return Ok(None);
-    };
+    }
     let null_word = match null_word {
         Some(word) => word,
         None => PlSmallStr::from_str(alloc, "")?,
     };
-    let mut by = Vec::with_capacity(alloc, 1)?;
-    by.push(name)?;
     Ok(Some(Request::Group {
         by,
         aggs,
@@ -92,7 +93,8 @@ fn group_of(alloc: Global, given: Given) -> PolarsResult<Option<Request>>
 
 /// The request that the words spell, None where they spell none.
 pub fn request_of(alloc: Global, words: &[String]) -> PolarsResult<Option<Request>>
-    ensures ok { IfOk result (λ o. option_map made.request_of o ≡ spelled.request (map string_bytes words.now)) }
+    ensures ok { IfOk result (λ o. option_map made.request_of o
+        ≡ spelled.request (map string_bytes words.now)) }
     ensures err { IfErr result IsNoMemory }
 {
     let Some((command, options)) = words.split_first() else {

@@ -15,7 +15,7 @@ use std::alloc::Global;
 /// What the words gave so far.
 #[derive(Drop)]
 pub struct Given {
-    pub by: Option<PlSmallStr>,
+    pub by: Vec<PlSmallStr>,
     pub aggs: Vec<Agg>,
     pub numbers: Numbers,
     pub null_word: Option<PlSmallStr>,
@@ -54,7 +54,7 @@ impl Given {
         ensures { given_of result ≡ spelled.nothing }
     {
         Given {
-            by: None,
+            by: Vec::new(alloc),
             aggs: Vec::new(alloc),
             numbers: Numbers::none(),
             null_word: None,
@@ -63,18 +63,17 @@ impl Given {
     }
 
     fn with_key(mut self, alloc: Global, word: &str) -> PolarsResult<Option<Given>>
-        ensures ok { IfOk result (λ o. option_map given_of o ≡ spelled.with_key word.now (given_of self)) }
+        ensures ok { IfOk result (λ o. option_map given_of o
+            ≡ spelled.with_key word.now (given_of self)) }
         ensures err { IfErr result IsNoMemory }
     {
-        if self.by.is_some() {
-            return Ok(None);
-        }
-        self.by = Some(PlSmallStr::from_str(alloc, word)?);
+        self.by.push(PlSmallStr::from_str(alloc, word)?)?;
         Ok(Some(self))
     }
 
     fn with_agg(mut self, alloc: Global, word: &str) -> PolarsResult<Option<Given>>
-        ensures ok { IfOk result (λ o. option_map given_of o ≡ spelled.with_agg word.now (given_of self)) }
+        ensures ok { IfOk result (λ o. option_map given_of o
+            ≡ spelled.with_agg word.now (given_of self)) }
         ensures err { IfErr result IsNoMemory }
     {
         let Some(agg) = agg_of(alloc, word)? else {
@@ -85,7 +84,8 @@ impl Given {
     }
 
     fn with_null_word(mut self, alloc: Global, word: &str) -> PolarsResult<Option<Given>>
-        ensures ok { IfOk result (λ o. option_map given_of o ≡ spelled.with_null_word word.now (given_of self)) }
+        ensures ok { IfOk result (λ o. option_map given_of o
+            ≡ spelled.with_null_word word.now (given_of self)) }
         ensures err { IfErr result IsNoMemory }
     {
         if self.null_word.is_some() {
@@ -96,7 +96,8 @@ impl Given {
     }
 
     fn with_number(mut self, option: &str, word: &str) -> Option<Given>
-        ensures { option_map given_of result ≡ option_map (λ n. record (given_of self) { numbers = n }) (spelled.with_number option.now word.now (given_of self).numbers) }
+        ensures { option_map given_of result
+            ≡ spelled.with_numbers option.now word.now (given_of self) }
     {
         self.numbers = self.numbers.with(option, word)?;
         Some(self)
@@ -116,7 +117,8 @@ impl Given {
     /// With an option and its value. None where the option is unknown, was given before and may not
     /// come again, or its value does not read.
     pub fn with_option(self, alloc: Global, option: &str, word: &str) -> PolarsResult<Option<Given>>
-        ensures ok { IfOk result (λ o. option_map given_of o ≡ spelled.with_option option.now word.now (given_of self)) }
+        ensures ok { IfOk result (λ o. option_map given_of o
+            ≡ spelled.with_option option.now word.now (given_of self)) }
         ensures err { IfErr result IsNoMemory }
     {
         if option == "--by" {

@@ -61,7 +61,8 @@ impl Numbers {
 
     /// With one more. None where the option is unknown, was given before, or its value is none.
     pub fn with(mut self, option: &str, word: &str) -> Option<Numbers>
-        ensures { option_map numbers_of result ≡ spelled.with_number option.now word.now (numbers_of self) }
+        ensures { option_map numbers_of result
+            ≡ spelled.with_number option.now word.now (numbers_of self) }
     {
         if option == "--workers" {
             self.workers = Some(once(self.workers, number_within(1, 64, word))?);

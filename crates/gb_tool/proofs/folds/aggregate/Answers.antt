@@ -1,11 +1,11 @@
 use Rattle.std.proofs.Common.{◌∙◌, ap, map}
 use Rattle.std.proofs.lemmas.Result.{IfOk-weaker}
 use Rattle.gb_defs.specs.Column.{content, fresh_column}
-use Rattle.gb_defs.specs.Fold.{sum_type}
+use Rattle.gb_defs.specs.Fold.{Sum, sum_type}
 use Rattle.gb_groups.specs.Groups.{lists_of}
 use Rattle.gb_series.specs.Series.{value_of}
 use Rattle.gb_cols.specs.PlSmallStr.{name_of}
-use Rattle.gb_tool.specs.Folds.{sum_of}
+use Rattle.gb_tool.specs.Folds.{fold_in}
 use Rattle.gb_tool.proofs.FoldingLemmas.{sums_are}
 use Rattle.gb_tool.proofs.folds.aggregate.Goals as goal
 
@@ -15,5 +15,5 @@ returns-in-Sum-clause-ok c =
     let lists = lists_of c.args.lists.now in
     let named = rw c.in-Sum.is at c.in_ok-name.ensures.ok in
     rw c.in-Sum.is (IfOk-weaker c.column_sums.result _ _ (λ s e.
-    ap content e ∙ ap (λ name. content (fresh_column name (sum_type column.dtype) (map (sum_of column) lists))) named ∙ sums_are (name_of c.args.agg.now.column) column lists)
+    ap content e ∙ ap (λ name. content (fresh_column name (sum_type column.dtype) (map (fold_in Sum column) lists))) named ∙ sums_are (name_of c.args.agg.now.column) column lists)
     c.column_sums.ensures.ok)

@@ -1,22 +1,19 @@
-use Rattle.std.proofs.Common.{◌∙◌, ap, List, ℕ, map}
+use Rattle.std.proofs.Common.{◌∙◌, ap, List, ℕ}
 use Rattle.std.proofs.lemmas.Result.{IfOk-weaker}
 use Rattle.gb_defs.specs.Slot.{Slot}
 use Rattle.gb_defs.specs.ColumnType.{uint32}
-use Rattle.gb_defs.specs.Column.{fresh_column}
 use Rattle.gb_groups.specs.Groups.{lists_of}
 use Rattle.gb_series.specs.Series.{value_of}
 use Rattle.gb_cols.specs.PlSmallStr.{name_of}
-use Rattle.gb_tool.proofs.FoldingLemmas.{counted_rows, counted_valid}
+use Rattle.gb_tool.specs.Folds.{fold_column}
+use Rattle.gb_tool.proofs.FoldingLemmas.{counted_rows}
 use Rattle.gb_tool.proofs.folds.column_counts.Goals as goal
 
 pub returns-then-include_nulls-clause-ok : goal.returns-then-include_nulls-clause-ok
 returns-then-include_nulls-clause-ok c =
     let lists = lists_of c.args.lists.now in
-    rw c.if-include_nulls.true (IfOk-weaker c.row_counts.result _ _ (λ counts e.
-    e ∙ ap (λ (f : List ℕ → Slot). fresh_column (name_of c.args.name) uint32 (map f lists)) (counted_rows (name_of c.args.name) (value_of c.args.column.now) lists)) c.row_counts.ensures.ok)
+    rw c.if-include_nulls.true (IfOk-weaker c.list_lengths.result _ _ (λ counts e.
+    e ∙ ap (λ (f : List ℕ → Slot). fold_column (name_of c.args.name) uint32 f lists) (counted_rows (name_of c.args.name) (value_of c.args.column.now) lists)) c.list_lengths.ensures.ok)
 
 pub returns-else-include_nulls-clause-ok : goal.returns-else-include_nulls-clause-ok
-returns-else-include_nulls-clause-ok c =
-    let lists = lists_of c.args.lists.now in
-    rw c.if-include_nulls.false (IfOk-weaker c.valid_counts.result _ _ (λ counts e.
-    e ∙ ap (λ (f : List ℕ → Slot). fresh_column (name_of c.args.name) uint32 (map f lists)) (counted_valid (name_of c.args.name) (value_of c.args.column.now) lists)) c.valid_counts.ensures.ok)
+returns-else-include_nulls-clause-ok c = rw c.if-include_nulls.false c.valid_counts.ensures.ok

@@ -1,6 +1,6 @@
 use Rattle.std.proofs.Common.{◌∙◌, ap, subst, length, ℕ, List, []}
 use Rattle.gb_defs.specs.Slot.{Num}
-use Rattle.gb_defs.specs.Fold.{wrap, total, valid, picked}
+use Rattle.gb_defs.specs.Fold.{Sum, fold_of, fold_picked, wrap, total, valid, picked}
 use Rattle.gb_tool.specs.Folds.{AreRows}
 use Rattle.gb_tool.proofs.FoldingLemmas.{column_next, list_at, list_in}
 use Rattle.gb_tool.proofs.folds.sums.Goals as goal
@@ -14,8 +14,9 @@ sum_at-requires g c =
     rw c.deref.ensures here.within
 
 pub loop-rows-preserved : goal.loop-rows-preserved
+unfolding fold_picked
 loop-rows-preserved g c =
     let dtype = g.T.PolarsNumericType.dtype in
     let slots = c.args.column.now.slots in
-    column_next c.args.lists.now c.loop-rows.rows-index c.rows-item.result c.loop-rows-test.true c.rows-item.is (λ rows. Num (wrap dtype (total (valid (picked slots rows))))) _ _ _ _ _
+    column_next c.args.lists.now c.loop-rows.rows-index c.rows-item.result c.loop-rows-test.true c.rows-item.is (fold_of Sum dtype slots) _ _ _ _ _
     c.in_ok-push.ensures.ok (ap (λ n. Num n) (c.sum_at.ensures ∙ ap (λ rows. wrap dtype (total (valid (picked slots rows)))) c.deref.ensures)) c.loop-rows.invariant

@@ -1,7 +1,7 @@
 use Rattle.std.proofs.Common.{◌≡◌, ◌∙◌, ap, sym, subst, length, ℕ, List, [], true, false, ◌==◌}
-use Rattle.gb_defs.specs.Fold.{number_slot, valid, picked}
+use Rattle.gb_defs.specs.Fold.{Count, fold_picked, number_slot, valid, picked}
 use Rattle.gb_series.specs.Series.{value_of}
-use Rattle.gb_tool.specs.Folds.{AreRows, valid_count}
+use Rattle.gb_tool.specs.Folds.{AreRows, fold_in}
 use Rattle.gb_tool.proofs.FoldingLemmas.{column_next, list_at, list_in}
 use Rattle.gb_tool.proofs.folds.valid_counts.Goals as goal
 use Rattle.gb_tool.proofs.folds.valid_counts.Goals.{then-is_empty, else-is_empty}
@@ -15,9 +15,10 @@ valid_at-requires-clause-rows c =
     rw c.deref.ensures (subst (λ (r : List ℕ). AreRows n r) at rows)
 
 pub loop-rows-preserved : goal.loop-rows-preserved
+unfolding fold_picked
 loop-rows-preserved c =
     let slots = (value_of c.args.column.now).slots in
-    column_next c.args.lists.now c.loop-rows.rows-index c.rows-item.result c.loop-rows-test.true c.rows-item.is (valid_count slots) _ _ _ _ _
+    column_next c.args.lists.now c.loop-rows.rows-index c.rows-item.result c.loop-rows-test.true c.rows-item.is (fold_in (Count false) (value_of c.args.column.now)) _ _ _ _ _
     c.in_ok-push.ensures.ok
     (elim c.if-is_empty.branch [
       | then-is_empty w ↦

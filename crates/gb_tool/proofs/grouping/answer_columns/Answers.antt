@@ -1,18 +1,20 @@
-use Rattle.std.proofs.Common.{◌≡◌, ◌∙◌, ap, sym, subst, List, [], ◌∷◌, map, None, false, is_none, arith}
+use Rattle.std.proofs.Common.{◌≡◌, ◌∙◌, ap, sym, subst, List, [], ◌∷◌, None, false, is_none, arith}
 use Rattle.std.proofs.lemmas.List.{take_all, map-append}
 use Rattle.std.proofs.lemmas.Result.{err_from_is_err_and}
 use Rattle.gb_defs.specs.Column.{content, find_column}
-use Rattle.gb_defs.specs.Answer.{aggregated}
 use Rattle.gb_defs.specs.Fault.{unfit_fault}
 use Rattle.gb_series.specs.declared.series.Series.{Series}
 use Rattle.gb_cols.specs.PlSmallStr.{name_of}
 use Rattle.gb_cols.specs.PolarsError.{Explains, cause_of}
 use Rattle.gb_groups.specs.Groups.{lists_of}
 use Rattle.gb_series.specs.Series.{value_of}
-use Rattle.gb_tool.specs.Grouping.{key_part}
+use Rattle.gb_tool.specs.Grouping.{answer_parts, unfit_cause}
 use Rattle.gb_tool.specs.Request.{aggs_of}
+use Rattle.gb_tool.specs.Text.{contents_of}
 use Rattle.gb_tool.specs.declared.request.Agg.{Agg}
-use Rattle.gb_tool.proofs.GroupingLemmas.{causes_at, causes_more, columns_more, first_cause, found_at, unfit_is, unfit_cause}
+use Rattle.gb_tool.proofs.AggLemmas.{found_at, unfit_is}
+use Rattle.gb_tool.proofs.CauseLemmas.{causes_at, causes_more, first_cause}
+use Rattle.gb_tool.proofs.PartLemmas.{parts_more}
 use Rattle.gb_tool.proofs.grouping.answer_columns.Goals as goal
 
 pub found_aggregate-requires-clause-found : goal.found_aggregate-requires-clause-found
@@ -26,7 +28,7 @@ returns-in_err-found_aggregate-clause-err c =
     let frame = c.args.frame.now in
     let aggs = c.args.aggs.now in
     let explained : (e : _) → Explains e (unfit_cause frame c.agg-item.result) → Explains e (unfit_fault frame (aggs_of aggs)) =
-    λ e h. rw (unfit_is frame aggs) (causes_at (unfit_cause frame) aggs c.loop-agg.agg-index c.agg-item.result c.loop-agg-test.true c.loop-agg.invariant.1 (cause_of e) (rw (← c.agg-item.is) h)) in
+    λ e h. rw (unfit_is frame aggs) (causes_at (unfit_cause frame) aggs c.loop-agg.agg-index c.agg-item.result c.loop-agg-test.true c.loop-agg.invariant.fit (cause_of e) (rw (← c.agg-item.is) h)) in
     let p = err_from_is_err_and c.from_residual-in_err-found_aggregate.result c.from_residual-in_err-found_aggregate.ensures.1 in
     rw (p.1, p.2) (explained c.in_err-found_aggregate.field-0.0 c.in_err-found_aggregate.ensures.err)
 
@@ -38,20 +40,20 @@ loop-agg-preserved c =
     let agg = c.agg-item.result in
     let part = λ (s : Series). content (value_of s) in
     let one = c.in_ok-found_aggregate.field-0 in
-    let columns = ap (map part) c.in_ok-push-2.ensures.items ∙ map-append part c.loop-agg.columns.items (one ∷ [])
-    ∙ columns_more frame (lists_of c.args.lists.now) aggs i agg c.loop-agg-test.true c.agg-item.is (key_part (value_of c.args.key.now) c.args.firsts.now) (map part c.loop-agg.columns.items) (part one)
-    c.loop-agg.invariant.0 c.in_ok-found_aggregate.ensures.ok in
-    let fits : unfit_cause frame agg ≡ None = rw c.in_ok-found_aggregate.ensures.fits in
-    (columns, causes_more (unfit_cause frame) aggs i agg c.loop-agg-test.true c.loop-agg.invariant.1 (rw (← c.agg-item.is) fits))
+    record {
+      parts = ap contents_of c.in_ok-push-2.ensures.items ∙ map-append part c.loop-agg.columns.items (one ∷ [])
+      ∙ parts_more frame (value_of c.args.key.now ∷ []) c.args.firsts.now (lists_of c.args.lists.now) aggs i agg c.loop-agg-test.true c.agg-item.is
+      (contents_of c.loop-agg.columns.items) (part one) c.loop-agg.invariant.parts c.in_ok-found_aggregate.ensures.ok;
+      fit = causes_more (unfit_cause frame) aggs i agg c.loop-agg-test.true c.loop-agg.invariant.fit (rw (← c.agg-item.is) c.in_ok-found_aggregate.ensures.fits);
+    }
 
 pub returns-clause-ok : goal.returns-clause-ok
 returns-clause-ok c =
-    let frame = c.args.frame.now in
-    let lists = lists_of c.args.lists.now in
-    c.loop-agg.invariant.0
-    ∙ ap (λ (aggs : List Agg). key_part (value_of c.args.key.now) c.args.firsts.now ∷ map (λ agg. aggregated agg (find_column frame agg.0) lists) (aggs_of aggs)) (take_all c.loop-agg.agg-index c.args.aggs.now (omega (arith, c.loop-agg-test.false)))
+    c.loop-agg.invariant.parts
+    ∙ ap (λ (aggs : List Agg). answer_parts c.args.frame.now (value_of c.args.key.now ∷ []) (aggs_of aggs) c.args.firsts.now (lists_of c.args.lists.now))
+    (take_all c.loop-agg.agg-index c.args.aggs.now (omega (arith, c.loop-agg-test.false)))
 
 pub returns-clause-fits : goal.returns-clause-fits
 returns-clause-fits c =
     let aggs = c.args.aggs.now in
-    unfit_is c.args.frame.now aggs ∙ ap (first_cause (unfit_cause c.args.frame.now)) (sym (take_all c.loop-agg.agg-index aggs (omega (arith, c.loop-agg-test.false)))) ∙ c.loop-agg.invariant.1
+    unfit_is c.args.frame.now aggs ∙ ap (first_cause (unfit_cause c.args.frame.now)) (sym (take_all c.loop-agg.agg-index aggs (omega (arith, c.loop-agg-test.false)))) ∙ c.loop-agg.invariant.fit

@@ -4,7 +4,8 @@ use Rattle.std.proofs.lemmas.Result.{err_from_is_err_and}
 use Rattle.gb_cols.specs.PolarsError.{Explains, cause_of}
 use Rattle.gb_defs.specs.Fault.{missing_fault}
 use Rattle.gb_tool.specs.Request.{aggs_of}
-use Rattle.gb_tool.proofs.GroupingLemmas.{causes_at, causes_more, first_cause, missing_is, missing_cause}
+use Rattle.gb_tool.proofs.CauseLemmas.{causes_at, causes_more, first_cause}
+use Rattle.gb_tool.proofs.AggLemmas.{missing_is, missing_cause}
 use Rattle.gb_tool.proofs.grouping.check_columns.Goals as goal
 
 pub returns-in_err-column-clause-err : goal.returns-in_err-column-clause-err

@@ -1,7 +1,7 @@
 use Rattle.std.proofs.Common.{ap, length, arith, []}
 use Rattle.gb_defs.specs.Fold.{number_slot}
 use Rattle.gb_tool.proofs.FoldingLemmas.{column_next, list_at, list_in}
-use Rattle.gb_tool.proofs.folds.row_counts.Goals as goal
+use Rattle.gb_tool.proofs.folds.list_lengths.Goals as goal
 
 pub overflow_cast-len : goal.overflow_cast-len
 overflow_cast-len c =
