@@ -9,13 +9,17 @@ use Rattle.gb_cols.specs.declared.error.PolarsError.{PolarsError}
 use Rattle.gb_cols.specs.declared.error.PolarsError.TheVariants.{ColumnNotFound, ComputeError}
 use Rattle.gb_tool.specs.declared.status.Status.{Status}
 use Rattle.gb_tool.specs.declared.status.Status.TheVariants.{Done, Usage, Table, Group, ReadFault, WriteFault, TooLong, NoMemory}
-use Rattle.gb_tool.specs.Run.{Comes, HasCause, IsOneOf, Run}
+use Rattle.gb_tool.specs.Run.{Comes, HasCause, IsOneOf, Run, Task}
 use Rattle.gb_tool.specs.Status.{fault_value}
 
-module _ (run : Run) (q : asked.Request) (bytes : List ℕ) (e : run.task.request ≡ Some q) (t : run.task.input ≡ Some bytes) (long : run.task.limit < length bytes) where
+module _ (task : Task) (q : asked.Request) (bytes : List ℕ) (e : task.request ≡ Some q) (t : task.input ≡ Some bytes) (long : task.limit < length bytes) where
   -- an outcome comes of an input within the limit
+  pub too_short : {B : Type 0} (o : Outcome) → Comes task o → B
+  too_short o c = let few : length bytes ≤ task.limit = (c.comes q bytes e t).0 in absurd (omega arith)
+
+module _ (run : Run) (q : asked.Request) (bytes : List ℕ) (e : run.task.request ≡ Some q) (t : run.task.input ≡ Some bytes) (long : run.task.limit < length bytes) where
   short : {B : Type 0} (o : Outcome) → Comes run.task o → B
-  short o c = let few : length bytes ≤ run.task.limit = (c.comes q bytes e t).0 in absurd (omega arith)
+  short = too_short run.task q bytes e t long
 
   pub long_input : (s : Status) → HasCause run s → IsOneOf (TooLong ∷ ReadFault ∷ NoMemory ∷ []) s
   long_input Done h = short (Report h.0) h.1
