@@ -52,6 +52,7 @@ decimal_parts scale negative whole part =
   where
     negative_of : ℕ → ℤ
     negative_of n = if n == 0 then pos 0 else negsuc (n - 1)
+
     negated : Bool → ℕ → ℤ
     negated true n = negative_of n
     negated false n = pos n

@@ -2,14 +2,15 @@
 use Rattle.std.specs.Prelude.{ℕ, Bool, true, List, [], ◌∷◌, Option, Some, None, codes, negsuc, pos, ◌^◌, ◌-◌, map, replicate}
 use Rattle.std.specs.Int.{w64}
 use Rattle.gb_defs.specs.Slot.{Slot, Nil, Num, Bytes, slot_at}
-use Rattle.gb_defs.specs.ColumnType.{ColumnType, Categorical, Flat, Lexical}
-use Rattle.gb_defs.specs.Column.{ColumnValue, SortedFlag, fresh_column}
+use Rattle.gb_defs.specs.ColumnType.{CategoricalOrdering, ColumnType, Categorical, Decimal, Enum, Flat, Lexical, int64, text}
+use Rattle.gb_defs.specs.Column.{ColumnValue, Frame, SortedFlag, fresh_column}
+use Rattle.gb_defs.specs.Cell.{cell_slot}
+use Rattle.gb_defs.specs.CellText.{cell_text}
 use Rattle.gb_defs.specs.Classes.{rows_below, same_slot}
 use Rattle.gb_defs.specs.Hash.{hash_of}
 use Rattle.gb_defs.specs.Partitions.{threaded_groups}
-use Rattle.gb_defs.specs.Rows.{Rows, rows_of_slots}
 use Rattle.gb_defs.specs.Path.{Path, path_of}
-use Rattle.gb_defs.specs.Fold.{Sum, Count}
+use Rattle.gb_defs.specs.Fold.{Method, Sum, Count, fold_of}
 use Rattle.gb_defs.specs.Request.{Request, Group, request, default_options}
 
 -- ---- requests
@@ -57,12 +58,15 @@ in_two_partitions sorted = threaded_groups (same_slot least_and_zero) (unmixed l
 
 -- ---- columns and paths
 
-abbrev pub numbers_slots : List ℕ → List Slot
-numbers_slots ns = map (λ n. Num (pos n)) ns
+-- the texts b and a, in this order, as categories and as an enum of this ordering
+abbrev pub category_of : CategoricalOrdering → ColumnType
+category_of ordering = Flat (Categorical (Some (codes "b" ∷ codes "a" ∷ [])) ordering)
 
--- the texts b and a, in this order, compared as texts
+abbrev pub enum_of : CategoricalOrdering → ColumnType
+enum_of ordering = Flat (Enum (Some (codes "b" ∷ codes "a" ∷ [])) ordering)
+
 abbrev pub b_and_a : ColumnType
-b_and_a = Flat (Categorical (Some (codes "b" ∷ codes "a" ∷ [])) Lexical)
+b_and_a = category_of Lexical
 
 -- so many rows of null, as a column of a type
 abbrev pub nulls_of : ColumnType → ℕ → ColumnValue
@@ -74,3 +78,33 @@ flagged_as flag c = record c { sorted = flag }
 -- the path that a key is given, by so many workers, from more than two rows on
 abbrev pub path_by : ℕ → ColumnValue → Path
 path_by workers key = path_of key true workers 2
+
+-- ---- cells
+
+abbrev pub decimal_of : ℕ → ColumnType
+decimal_of scale = Flat (Decimal None (Some scale))
+
+-- what a field reads as, and how a slot is printed, where NA is null
+abbrev pub reads : ColumnType → List ℕ → Option Slot
+reads t field = cell_slot (codes "NA") t field
+
+abbrev pub prints : ColumnType → Slot → List ℕ
+prints t slot = cell_text (codes "NA") t slot
+
+-- ---- folds and faults
+
+-- 3, null, -1 and 3 again
+abbrev pub four_slots : List Slot
+four_slots = Num (pos 3) ∷ Nil ∷ Num (negsuc 0) ∷ Num (pos 3) ∷ []
+
+-- a fold of these slots over some rows
+abbrev pub folds : Method → List ℕ → Slot
+folds method rows = fold_of method int64 four_slots rows
+
+-- numbers k and texts v of one row
+abbrev pub one_row : Frame
+one_row = fresh_column (codes "k") int64 (Num (pos 1) ∷ []) ∷ fresh_column (codes "v") text (Bytes (codes "x") ∷ []) ∷ []
+
+-- a key of so many rows of null
+abbrev pub key_of : ℕ → ColumnValue
+key_of count = fresh_column (codes "k") int64 (replicate count Nil)
