@@ -41,7 +41,8 @@ pub fn read_bytes()
     ensures no_bytes { reads (Flat Binary) (codes "") ≡ Some (Bytes []) }
     ensures half_a_byte { reads (Flat Binary) (codes "0") ≡ None }
     ensures no_digits { reads (Flat Binary) (codes "0g") ≡ None }
-    ensures category { reads (Flat (Categorical None Physical)) (codes "b") ≡ Some (Bytes (codes "b")) }
+    ensures category { reads (Flat (Categorical None Physical)) (codes "b")
+        ≡ Some (Bytes (codes "b")) }
     ensures codes_by_place { content (read_column (codes "c") (Flat (Categorical None Physical))
         (Bytes (codes "b") ∷ Nil ∷ Bytes (codes "a") ∷ Bytes (codes "b") ∷ []))
         ≡ record {
@@ -60,10 +61,13 @@ pub fn printed()
     ensures no_scale { prints (decimal_of 0) (Num (pos 7)) ≡ codes "7" }
     ensures pairs { prints (Flat Binary) (Bytes (0 ∷ 171 ∷ [])) ≡ codes "00ab" }
     ensures category { prints (category_of Physical) (Num (pos 1)) ≡ codes "a" }
-    ensures list { prints (ListOf int64) (Items (And (Num (negsuc 0)) (And Nil End))) ≡ codes "[-1,null]" }
+    ensures list { prints (ListOf int64) (Items (And (Num (negsuc 0)) (And Nil End)))
+        ≡ codes "[-1,null]" }
     ensures empty_list { prints (ListOf int64) (Items End) ≡ codes "[]" }
-    ensures quoted { prints (ListOf text) (Items (And (Bytes (codes "a\"\\")) End)) ≡ codes "[\"a\\\"\\\\\"]" }
-    ensures parts { prints (StructOf (Field (codes "a") (category_of Physical) (Field (codes "b") int64 NoFields)))
+    ensures quoted { prints (ListOf text) (Items (And (Bytes (codes "a\"\\")) End))
+        ≡ codes "[\"a\\\"\\\\\"]" }
+    ensures parts { prints
+        (StructOf (Field (codes "a") (category_of Physical) (Field (codes "b") int64 NoFields)))
         (Items (And (Num (pos 0)) (And (Num (pos 2)) End))) ≡ codes "[\"b\",2]" }
     ensures list_word { type_word (ListOf (decimal_of 2)) ≡ codes "list[dec2]" }
     ensures array_word { type_word (ArrayOf text 3) ≡ codes "array[str;3]" }

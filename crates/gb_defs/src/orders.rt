@@ -19,9 +19,12 @@ pub fn orders()
     ensures by_text { below ByText (category_of Physical) (Num (pos 1)) (Num (pos 0)) ≡ true }
     ensures numbers { below ByCode int64 (Num (negsuc 0)) (Num (pos 0)) ≡ true }
     ensures front { below ByCode text (Bytes (codes "a")) (Bytes (codes "ab")) ≡ true }
-    ensures null_in_a_list { below ByCode (ListOf int64) (Items (And Nil End)) (Items (And (Num (pos 0)) End)) ≡ true }
+    ensures null_in_a_list { below ByCode (ListOf int64)
+        (Items (And Nil End)) (Items (And (Num (pos 0)) End))
+        ≡ true }
     ensures shorter_list { below ByCode (ListOf int64) (Items End) (Items (And Nil End)) ≡ true }
-    ensures same_list { below ByCode (ListOf int64) (Items (And Nil End)) (Items (And Nil End)) ≡ false }
+    ensures same_list { below ByCode (ListOf int64) (Items (And Nil End)) (Items (And Nil End))
+        ≡ false }
 {}
 
 /// Folds of 3, null, -1 and 3 again over some of their rows.
@@ -30,7 +33,9 @@ pub fn folded()
     ensures least { folds Min (0 ∷ 1 ∷ 2 ∷ []) ≡ Num (negsuc 0) }
     ensures greatest { folds Max (1 ∷ 2 ∷ 3 ∷ []) ≡ Num (pos 3) }
     ensures least_of_null { folds Min (1 ∷ []) ≡ Nil }
-    ensures least_text { fold_of Min (category_of Lexical) (Num (pos 0) ∷ Num (pos 1) ∷ []) (0 ∷ 1 ∷ []) ≡ Num (pos 1) }
+    ensures least_text { fold_of Min (category_of Lexical)
+        (Num (pos 0) ∷ Num (pos 1) ∷ []) (0 ∷ 1 ∷ [])
+        ≡ Num (pos 1) }
     ensures first { folds First (1 ∷ 2 ∷ []) ≡ Nil }
     ensures last { folds Last (1 ∷ 2 ∷ []) ≡ Num (negsuc 0) }
     ensures last_of_none { folds Last [] ≡ Nil }
@@ -38,6 +43,7 @@ pub fn folded()
     ensures rows { folds (Count true) (0 ∷ 1 ∷ []) ≡ Num (pos 2) }
     ensures valid_rows { folds (Count false) (0 ∷ 1 ∷ []) ≡ Num (pos 1) }
     ensures valid_of_none { folds (Count false) [] ≡ Nil }
-    ensures row_list { folds Groups (1 ∷ 3 ∷ []) ≡ Items (And (Num (pos 1)) (And (Num (pos 3)) End)) }
+    ensures row_list { folds Groups (1 ∷ 3 ∷ [])
+        ≡ Items (And (Num (pos 1)) (And (Num (pos 3)) End)) }
     ensures slot_list { folds Implode (1 ∷ 3 ∷ []) ≡ Items (And Nil (And (Num (pos 3)) End)) }
 {}

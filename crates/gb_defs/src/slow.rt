@@ -10,7 +10,8 @@ use std::alloc::{AllocError, Global};
 
 /// The rows whose key no earlier row has.
 pub fn firsts(alloc: Global, keys: &[u64]) -> Result<Vec<usize>, AllocError>
-    ensures { IfOk result (λ rows. rows.items ≡ firsts (same_key keys.now) (rows_below (length keys.now))) }
+    ensures { IfOk result (λ rows. rows.items
+        ≡ firsts (same_key keys.now) (rows_below (length keys.now))) }
 {
     let mut rows = Vec::new(alloc);
     for row in 0..keys.len() {
@@ -24,7 +25,8 @@ pub fn firsts(alloc: Global, keys: &[u64]) -> Result<Vec<usize>, AllocError>
 /// The rows with this row's key.
 pub fn class_of(alloc: Global, keys: &[u64], of: usize) -> Result<Vec<usize>, AllocError>
     requires { of < length keys.now }
-    ensures { IfOk result (λ rows. rows.items ≡ class (same_key keys.now) (rows_below (length keys.now)) of) }
+    ensures { IfOk result (λ rows. rows.items
+        ≡ class (same_key keys.now) (rows_below (length keys.now)) of) }
 {
     let mut rows = Vec::new(alloc);
     for row in 0..keys.len() {

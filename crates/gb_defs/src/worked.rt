@@ -8,35 +8,53 @@ ghost use Rattle.gb_defs.specs.Worked.{asked, sums_by_date, sums_by_key, sums_of
 
 /// The request that the words of a command line spell.
 pub fn requests()
-    ensures spelled { asked (codes "--by" ∷ codes "date" ∷ codes "--agg" ∷ codes "sum:temp" ∷ codes "--agg" ∷ codes "count:temp" ∷ []) ≡ Some sums_by_date }
-    ensures colon { asked (codes "--by" ∷ codes "k" ∷ codes "--agg" ∷ codes "sum:a:b" ∷ []) ≡ Some sums_of_colon }
+    ensures spelled { asked (codes "--by" ∷ codes "date"
+        ∷ codes "--agg" ∷ codes "sum:temp" ∷ codes "--agg" ∷ codes "count:temp" ∷ [])
+        ≡ Some sums_by_date }
+    ensures colon { asked (codes "--by" ∷ codes "k" ∷ codes "--agg" ∷ codes "sum:a:b" ∷ [])
+        ≡ Some sums_of_colon }
     ensures command_alone { asked ([]) ≡ None }
     ensures no_value { asked (codes "--by" ∷ codes "k" ∷ codes "--agg" ∷ []) ≡ None }
-    ensures unknown_method { asked (codes "--by" ∷ codes "k" ∷ codes "--agg" ∷ codes "total:v" ∷ []) ≡ None }
-    ensures any_order { asked (codes "--explain" ∷ codes "--agg" ∷ codes "sum:v" ∷ codes "--workers" ∷ codes "2" ∷ codes "--by" ∷ codes "k" ∷ []) ≡ Some two_workers }
+    ensures unknown_method { asked (codes "--by" ∷ codes "k" ∷ codes "--agg" ∷ codes "total:v" ∷ [])
+        ≡ None }
+    ensures any_order { asked (codes "--explain" ∷ codes "--agg" ∷ codes "sum:v"
+        ∷ codes "--workers" ∷ codes "2" ∷ codes "--by" ∷ codes "k" ∷ [])
+        ≡ Some two_workers }
     ensures repeated { asked (codes "--by" ∷ codes "k" ∷ codes "--by" ∷ codes "j" ∷ []) ≡ None }
-    ensures out_of_range { asked (codes "--by" ∷ codes "k" ∷ codes "--workers" ∷ codes "65" ∷ []) ≡ None }
-    ensures value_like_an_option { asked (codes "--null" ∷ codes "--by" ∷ codes "--by" ∷ codes "k" ∷ []) ≡ Some null_by }
+    ensures out_of_range { asked (codes "--by" ∷ codes "k" ∷ codes "--workers" ∷ codes "65" ∷ [])
+        ≡ None }
+    ensures value_like_an_option { asked (codes "--null" ∷ codes "--by" ∷ codes "--by" ∷ codes "k" ∷ [])
+        ≡ Some null_by }
 {}
 
 /// What a request makes of a table's text.
 pub fn outcomes()
-    ensures sums_and_counts { outcome sums_by_date (codes "date,temp:i64\n2020-08-21,20\n2020-08-21,10\n2020-08-22,7\n2020-08-23,9\n2020-08-22,1\n")
+    ensures sums_and_counts { outcome sums_by_date
+        (codes "date,temp:i64\n2020-08-21,20\n2020-08-21,10\n2020-08-22,7\n2020-08-23,9\n2020-08-22,1\n")
         ≡ Report (codes "date:str,temp_sum:i64,temp_count:u32\n2020-08-21,30,2\n2020-08-22,8,2\n2020-08-23,9,1\n") }
-    ensures null_is_a_group { outcome sums_by_key (codes "k,v:i64\n,5\n1,6\n,7\n") ≡ Report (codes "k:str,v_sum:i64\n,12\n1,6\n") }
-    ensures number_key { outcome sums_by_key (codes "k:i64,v:i64\n,5\n1,6\n,7\n") ≡ Report (codes "k:i64,v_sum:i64\n,12\n1,6\n") }
+    ensures null_is_a_group { outcome sums_by_key (codes "k,v:i64\n,5\n1,6\n,7\n")
+        ≡ Report (codes "k:str,v_sum:i64\n,12\n1,6\n") }
+    ensures number_key { outcome sums_by_key (codes "k:i64,v:i64\n,5\n1,6\n,7\n")
+        ≡ Report (codes "k:i64,v_sum:i64\n,12\n1,6\n") }
     ensures no_rows { outcome sums_by_key (codes "k,v:i64\n") ≡ Report (codes "k:str,v_sum:i64\n") }
-    ensures sums_wrap { outcome sums_by_key (codes "k,v:i64\nx,9223372036854775807\nx,1\n") ≡ Report (codes "k:str,v_sum:i64\nx,-9223372036854775808\n") }
-    ensures quoted { outcome sums_by_key (codes "k,v:i64\r\n\"x, y\",+2\r\n\"x, y\",-5\r\n") ≡ Report (codes "k:str,v_sum:i64\n\"x, y\",-3\n") }
+    ensures sums_wrap { outcome sums_by_key (codes "k,v:i64\nx,9223372036854775807\nx,1\n")
+        ≡ Report (codes "k:str,v_sum:i64\nx,-9223372036854775808\n") }
+    ensures quoted { outcome sums_by_key (codes "k,v:i64\r\n\"x, y\",+2\r\n\"x, y\",-5\r\n")
+        ≡ Report (codes "k:str,v_sum:i64\n\"x, y\",-3\n") }
     ensures bad_cell { outcome keys_alone (codes "k:i64\n12x\n") ≡ BadTable (BadCell 1 1) }
     ensures ragged { outcome keys_alone (codes "k\n1,2\n") ≡ BadTable (Ragged 1 2 1) }
     ensures same_name { outcome keys_alone (codes "a,a:i64\n") ≡ BadTable (SameName 2) }
     ensures no_header { outcome keys_alone (codes "") ≡ BadTable NoHeader }
     ensures unread_type { outcome keys_alone (codes "k,v:i32\n") ≡ BadTable (BadCell 0 2) }
-    ensures header_from_the_left { outcome keys_alone (codes "k,k,v:i32\n") ≡ BadTable (SameName 2) }
-    ensures first_bad_row { outcome keys_alone (codes "k,v:i64\na,1\nb\nc,x\n") ≡ BadTable (Ragged 2 1 2) }
+    ensures header_from_the_left { outcome keys_alone (codes "k,k,v:i32\n")
+        ≡ BadTable (SameName 2) }
+    ensures first_bad_row { outcome keys_alone (codes "k,v:i64\na,1\nb\nc,x\n")
+        ≡ BadTable (Ragged 2 1 2) }
     ensures other_word { outcome keys_alone (codes "k,x:foo\na,b\n") ≡ Report (codes "k:str\na\n") }
-    ensures missing_key { outcome by_day (codes "date,temp:i64\n2020-08-21,20\n") ≡ BadGroup (ColumnNotFound (codes "day")) }
-    ensures text_sum { outcome sums_by_key (codes "k,v\na,b\n") ≡ BadGroup (InvalidOperation OfSum (codes "v")) }
-    ensures missing_column { outcome sums_by_key (codes "k\na\n") ≡ BadGroup (ColumnNotFound (codes "v")) }
+    ensures missing_key { outcome by_day (codes "date,temp:i64\n2020-08-21,20\n")
+        ≡ BadGroup (ColumnNotFound (codes "day")) }
+    ensures text_sum { outcome sums_by_key (codes "k,v\na,b\n")
+        ≡ BadGroup (InvalidOperation OfSum (codes "v")) }
+    ensures missing_column { outcome sums_by_key (codes "k\na\n")
+        ≡ BadGroup (ColumnNotFound (codes "v")) }
 {}

@@ -79,9 +79,11 @@ fn column_sums(
     requires rows { All (AreRows (length (value_of column.now).slots)) (lists_of lists.now) }
     requires few { HasRowNumbers (length lists.now) }
     ensures fits { OnOk result (has_sum (value_of column.now).dtype ≡ true) }
-    ensures ok { IfOk result (λ s. value_of s ≡ fold_column (name_of name)
-        (sum_type (value_of column.now).dtype) (fold_in Sum (value_of column.now)) (lists_of lists.now)) }
-    ensures err { IfErr result (λ e. Explains e (unfit_in (name_of asked.now) Sum (value_of column.now))) }
+    ensures ok { IfOk result (λ s. value_of s
+        ≡ fold_column (name_of name) (sum_type (value_of column.now).dtype)
+        (fold_in Sum (value_of column.now)) (lists_of lists.now)) }
+    ensures err { IfErr result (λ e.
+        Explains e (unfit_in (name_of asked.now) Sum (value_of column.now))) }
 {
     match column {
         Series::UInt32(numbers) => Ok(Series::UInt32(sums(name, numbers, lists)?)),

@@ -84,8 +84,8 @@ fn key_groups<R: Threads + Sync, G: Gate + Sync>(
     gate: &G,
 ) -> PolarsResult<GroupsType>
     requires few { HasRowNumbers (length (value_of key.now).slots) }
-    ensures ok { IfOk result (λ g. (groups_of g).pairs
-        ≡ groups (same_slot (value_of key.now).slots) (rows_below (length (value_of key.now).slots))) }
+    ensures ok { IfOk result (λ g. (groups_of g).pairs ≡ groups
+        (same_slot (value_of key.now).slots) (rows_below (length (value_of key.now).slots))) }
     ensures err { IfErr result IsNoMemory }
 {
     let multithreaded = true;
@@ -133,7 +133,8 @@ fn answer_columns(
     requires rows { All (AreRows (frame_height frame.now)) (lists_of lists.now) }
     requires few { HasRowNumbers (length lists.now) }
     ensures ok { IfOk result (λ columns. contents_of columns.items
-        ≡ answer_parts frame.now (value_of key.now ∷ []) (aggs_of aggs.now) firsts.now (lists_of lists.now)) }
+        ≡ answer_parts frame.now (value_of key.now ∷ []) (aggs_of aggs.now)
+        firsts.now (lists_of lists.now)) }
     ensures fits { OnOk result (unfit_fault frame.now (aggs_of aggs.now) ≡ None) }
     ensures err { IfErr result (λ e. Explains e (unfit_fault frame.now (aggs_of aggs.now))) }
 {

@@ -104,7 +104,8 @@ pub fn run<R: Threads + Sync, S: Source, W: Sink, E: Sink, G: Gate + Sync>(
 
     // The table is at fault.
     ensures table { (f : TableFault) → result ≡ status.Table f
-        → Comes (task_of words.now (S.left source.old) limits.input_bytes) (BadTable (fault_value f)) }
+        → Comes (task_of words.now (S.left source.old) limits.input_bytes)
+        (BadTable (fault_value f)) }
     ensures bad_table { OfOutcome (task_of words.now (S.left source.old) limits.input_bytes)
         (λ o. (f : table.TableFault) → o ≡ BadTable f
         → IsTable f result ⊎ IsOneOf (status.ReadFault ∷ status.NoMemory ∷ []) result) }
@@ -123,7 +124,8 @@ pub fn run<R: Threads + Sync, S: Source, W: Sink, E: Sink, G: Gate + Sync>(
         → IsTold f result ⊎ IsOneOf (status.ReadFault ∷ status.NoMemory ∷ []) result) }
 
     // The sink failed, and has taken a part of the text.
-    ensures write_fault { result ≡ status.WriteFault → Rose (W.faults sink.old) (W.faults sink.new) }
+    ensures write_fault { result ≡ status.WriteFault
+        → Rose (W.faults sink.old) (W.faults sink.new) }
     ensures part { result ≡ status.WriteFault
         → Writes (task_of words.now (S.left source.old) limits.input_bytes)
         (λ text. HoldsPart text (W.held sink.old) (W.held sink.new)) }
