@@ -8,30 +8,26 @@ use std::test::Fail;
 
 const MOST_TURNS: u64 = 100_000_000;
 
-/// Holds piece 0 until piece 1 has entered, for so many turns at most, and counts what passes.
+/// Counts what passes it, and holds piece 0 until piece 1 has entered, for so many turns at most.
 #[derive(Drop)]
 struct HoldingGate {
-    first_entered: AtomicU64,
-    second_entered: AtomicU64,
-    first_left: AtomicU64,
-    second_left: AtomicU64,
+    entered: [AtomicU64; 3],
+    left: [AtomicU64; 3],
     turns: AtomicU64,
 }
 
 impl HoldingGate {
     fn new() -> HoldingGate {
         HoldingGate {
-            first_entered: AtomicU64::new(0),
-            second_entered: AtomicU64::new(0),
-            first_left: AtomicU64::new(0),
-            second_left: AtomicU64::new(0),
+            entered: [AtomicU64::new(0), AtomicU64::new(0), AtomicU64::new(0)],
+            left: [AtomicU64::new(0), AtomicU64::new(0), AtomicU64::new(0)],
             turns: AtomicU64::new(0),
         }
     }
 
     fn hold(&self) {
         for _ in 0..MOST_TURNS {
-            if self.second_entered.load(Ordering::SeqCst) > 0 {
+            if self.entered[1].load(Ordering::SeqCst) > 0 {
                 return;
             }
             self.turns.fetch_add(1, Ordering::SeqCst);
@@ -41,36 +37,58 @@ impl HoldingGate {
 
 impl Gate for HoldingGate {
     fn enter(&self, piece: u64) {
+        if piece < 3 {
+            self.entered[piece as usize].fetch_add(1, Ordering::SeqCst);
+        }
         if piece == 0 {
-            self.first_entered.fetch_add(1, Ordering::SeqCst);
             self.hold();
-        } else {
-            self.second_entered.fetch_add(1, Ordering::SeqCst);
         }
     }
 
     fn leave(&self, piece: u64) {
-        if piece == 0 {
-            self.first_left.fetch_add(1, Ordering::SeqCst);
-        } else {
-            self.second_left.fetch_add(1, Ordering::SeqCst);
+        if piece < 3 {
+            self.left[piece as usize].fetch_add(1, Ordering::SeqCst);
         }
     }
 }
 
+/// Words, and how often each piece enters the gate, and leaves it.
+struct Passed {
+    words: &'static str,
+    times: [u64; 3],
+}
+
+const PASSED: [Passed; 3] = [
+    Passed {
+        words: "group --by k --agg sum:v --workers 2 --partitions 2 --piece 2",
+        times: [1, 1, 0],
+    },
+    Passed {
+        words: "group --by k --agg sum:v --workers 2 --partitions 3",
+        times: [1, 1, 1],
+    },
+    Passed {
+        words: "group --by k --agg sum:v --workers 1 --partitions 3",
+        times: [0, 0, 0],
+    },
+];
+
 #[test]
-fn two_pieces_run_side_by_side(rt: HostRuntime) -> Result<(), Fail> {
-    let words = "group --by k --agg sum:v --workers 2 --partitions 2 --piece 2";
-    let mut source = source_of(rt.alloc(), "k,v:i64\nb,1\na,2\nb,3\na,4\n")?;
-    let mut sink = MemSink::new(rt.alloc(), 4096, 4096, Vec::new(rt.alloc()))?;
-    let gate = HoldingGate::new();
-    let status = status_through(&rt, rt.alloc(), words, 4096, &mut source, &mut sink, &gate)?;
-    assert_eq!(rt; status.code(), 0);
-    assert_eq!(rt; sink.bytes(), b"k:str,v_sum:i64\nb,4\na,6\n".as_slice());
-    assert_eq!(rt; gate.first_entered.load(Ordering::SeqCst), 1);
-    assert_eq!(rt; gate.second_entered.load(Ordering::SeqCst), 1);
-    assert_eq!(rt; gate.first_left.load(Ordering::SeqCst), 1);
-    assert_eq!(rt; gate.second_left.load(Ordering::SeqCst), 1);
-    assert!(rt; gate.turns.load(Ordering::SeqCst) < MOST_TURNS);
+fn pieces_run_side_by_side(rt: HostRuntime) -> Result<(), Fail> {
+    for row in &PASSED {
+        let mut source = source_of(rt.alloc(), b"k,v:i64\nb,1\na,2\nb,3\na,4\n")?;
+        let mut sink = MemSink::new(rt.alloc(), 4096, 4096, Vec::new(rt.alloc()))?;
+        let gate = HoldingGate::new();
+        let words = row.words;
+        let status =
+            status_through(&rt, rt.alloc(), words, 4096, &mut source, &mut sink, &gate)?;
+        assert_eq!(rt; status.code(), 0);
+        assert_eq!(rt; sink.bytes(), b"k:str,v_sum:i64\nb,4\na,6\n".as_slice());
+        for piece in 0..3 {
+            assert_eq!(rt; gate.entered[piece].load(Ordering::SeqCst), row.times[piece]);
+            assert_eq!(rt; gate.left[piece].load(Ordering::SeqCst), row.times[piece]);
+        }
+        assert!(rt; gate.turns.load(Ordering::SeqCst) < MOST_TURNS);
+    }
     Ok(())
 }

@@ -1,10 +1,9 @@
 //! `run` over devices in memory, once for each way in which it may end.
 
 ghost use Rattle.std.specs.Prelude.{◌≤◌};
-ghost use Rattle.std.specs.Thread.{IsSync};
 
 use crate::run::{Limits, run};
-use crate::status::Status;
+use crate::status::{Status, TableFault};
 use gb_cols::device::{Failed, Gate, Source};
 use gb_cols::error::PolarsError;
 use gb_cols::memory::{FreeGate, MemSink, SoundSource};
@@ -37,8 +36,8 @@ impl Source for FailingSource {
 }
 
 /// A source that tells its bytes.
-pub(crate) fn source_of(alloc: Global, input: &str) -> Result<SoundSource, Fail> {
-    Ok(SoundSource::new(Vec::from_slice(alloc, input.as_bytes())?))
+pub(crate) fn source_of(alloc: Global, input: &[u8]) -> Result<SoundSource, Fail> {
+    Ok(SoundSource::new(Vec::from_slice(alloc, input)?))
 }
 
 // How a run of these words ends, through a gate that holds nothing up.
@@ -50,8 +49,7 @@ fn status_of<R: Threads + Sync, S: Source>(
     source: &mut S,
     sink: &mut MemSink,
 ) -> Result<Status, Fail>
-    requires row_type { IsSync R.row }
-    requires limit { limit ≤ 4294967295 }
+    requires { limit ≤ 4294967295 }
 {
     status_through(rt, alloc, words, limit, source, sink, &FreeGate)
 }
@@ -66,8 +64,7 @@ pub(crate) fn status_through<R: Threads + Sync, S: Source, G: Gate + Sync>(
     sink: &mut MemSink,
     gate: &G,
 ) -> Result<Status, Fail>
-    requires row_type { IsSync R.row }
-    requires limit { limit ≤ 4294967295 }
+    requires { limit ≤ 4294967295 }
 {
     let mut spelled = Vec::new(alloc);
     for word in words.split(' ') {
@@ -95,7 +92,7 @@ struct Row {
     wrote: &'static str,
 }
 
-const ROWS: [Row; 9] = [
+const ROWS: [Row; 10] = [
     Row {
         words: SUMS,
         input: DAYS,
@@ -121,10 +118,16 @@ const ROWS: [Row; 9] = [
         wrote: "k:str,v_sum:i64\n",
     },
     Row {
-        words: "group --by k",
-        input: "k:i64\n12x\n",
-        code: 3,
-        wrote: "",
+        words: SUMS,
+        input: "date,temp:i64\n2020-08-21,20\n2020-08-22,",
+        code: 0,
+        wrote: "date:str,temp_sum:i64,temp_count:u32\n2020-08-21,20,1\n2020-08-22,0,1\n",
+    },
+    Row {
+        words: SUMS,
+        input: "date,temp:i64",
+        code: 0,
+        wrote: "date:str,temp_sum:i64,temp_count:u32\n",
     },
     Row {
         words: "group --by day",
@@ -155,11 +158,85 @@ const ROWS: [Row; 9] = [
 #[test]
 fn rows_end_as_they_say(rt: HostRuntime) -> Result<(), Fail> {
     for row in &ROWS {
-        let mut source = source_of(rt.alloc(), row.input)?;
+        let mut source = source_of(rt.alloc(), row.input.as_bytes())?;
         let mut sink = MemSink::new(rt.alloc(), 4096, 4096, Vec::new(rt.alloc()))?;
         let status = status_of(&rt, rt.alloc(), row.words, 4096, &mut source, &mut sink)?;
         assert_eq!(rt; status.code(), row.code);
         assert_eq!(rt; sink.bytes(), row.wrote.as_bytes());
+    }
+    Ok(())
+}
+
+/// A table's bytes and its fault.
+struct BadTable {
+    input: &'static [u8],
+    fault: TableFault,
+}
+
+const BAD_TABLES: [BadTable; 12] = [
+    BadTable {
+        input: b"",
+        fault: TableFault::NoHeader,
+    },
+    BadTable {
+        input: b"\n\n",
+        fault: TableFault::NoHeader,
+    },
+    BadTable {
+        input: b"\xff",
+        fault: TableFault::BadCell(0, 1),
+    },
+    BadTable {
+        input: b"a\n\xff\n",
+        fault: TableFault::BadCell(1, 1),
+    },
+    BadTable {
+        input: b"a:i64,a\n1,2\n",
+        fault: TableFault::SameName(2),
+    },
+    BadTable {
+        input: b"a,b:i32\n",
+        fault: TableFault::BadCell(0, 2),
+    },
+    BadTable {
+        input: b"a,a,b:i32\n",
+        fault: TableFault::SameName(2),
+    },
+    BadTable {
+        input: b"a,b\n1\n",
+        fault: TableFault::Ragged(1, 1, 2),
+    },
+    BadTable {
+        input: b"a,b:i64\nx,1\n\ny,2\nz,3,4\nw,v\n",
+        fault: TableFault::Ragged(3, 3, 2),
+    },
+    BadTable {
+        input: b"a,b:i64\n\"x\n\",1\ny,12z\n",
+        fault: TableFault::BadCell(2, 2),
+    },
+    BadTable {
+        input: b"a:i64\n9223372036854775807\n9223372036854775808\n",
+        fault: TableFault::BadCell(2, 1),
+    },
+    BadTable {
+        input: b"date,temp:i64\n2020-08-21,20\n2020-08",
+        fault: TableFault::Ragged(2, 1, 2),
+    },
+];
+
+#[test]
+fn bad_tables_tell_the_place(rt: HostRuntime) -> Result<(), Fail> {
+    for row in &BAD_TABLES {
+        let mut source = source_of(rt.alloc(), row.input)?;
+        let mut sink = MemSink::new(rt.alloc(), 4096, 4096, Vec::new(rt.alloc()))?;
+        let words = "group --by a";
+        let status = status_of(&rt, rt.alloc(), words, 4096, &mut source, &mut sink)?;
+        let told = match status {
+            Status::Table(fault) => Some(fault),
+            _ => None,
+        };
+        assert_eq!(rt; told, Some(row.fault));
+        assert!(rt; sink.bytes().is_empty());
     }
     Ok(())
 }
@@ -196,7 +273,7 @@ const FAULTY: [Faulty; 5] = [
 #[test]
 fn faults_are_told(rt: HostRuntime) -> Result<(), Fail> {
     for row in &FAULTY {
-        let mut source = source_of(rt.alloc(), DAYS)?;
+        let mut source = source_of(rt.alloc(), DAYS.as_bytes())?;
         let mut sink = MemSink::new(rt.alloc(), 4096, 4096, Vec::new(rt.alloc()))?;
         let status = status_of(&rt, rt.alloc(), row.words, 4096, &mut source, &mut sink)?;
         let missing = match &status {
@@ -212,14 +289,14 @@ fn faults_are_told(rt: HostRuntime) -> Result<(), Fail> {
 
 #[test]
 fn devices_fail(rt: HostRuntime) -> Result<(), Fail> {
-    let mut source = source_of(rt.alloc(), DAYS)?;
+    let mut source = source_of(rt.alloc(), DAYS.as_bytes())?;
     let failing = Vec::from_slice(rt.alloc(), &[2])?;
     let mut sink = MemSink::new(rt.alloc(), 4096, 7, failing)?;
     let status = status_of(&rt, rt.alloc(), SUMS, 4096, &mut source, &mut sink)?;
     assert_eq!(rt; status.code(), 6);
     assert_eq!(rt; sink.bytes(), b"date:st".as_slice());
 
-    let mut source = source_of(rt.alloc(), DAYS)?;
+    let mut source = source_of(rt.alloc(), DAYS.as_bytes())?;
     let status = status_of(&rt, rt.alloc(), SUMS, 10, &mut source, &mut sink)?;
     assert_eq!(rt; status.code(), 7);
 
