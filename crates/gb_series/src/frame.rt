@@ -82,6 +82,7 @@ impl DataFrame {
 
     /// Where the column of this name stands.
     pub fn position(&self, name: &str) -> Option<usize>
+        ensures within { IfSome result (λ place. place < length self.now) }
         ensures some { IfSome result (λ place. slice_get self.now place ≡ find_column self.now name.now) }
         ensures none { IfNone result (find_column self.now name.now ≡ None) }
     {
