@@ -35,6 +35,13 @@ flagged_at (s ∷ slots) [] i = ap (λ ss. slot_at ss i) (flagged_none (s ∷ sl
 flagged_at (s ∷ slots) (f ∷ flags) zero = refl
 flagged_at (s ∷ slots) (f ∷ flags) (suc i) = flagged_at slots flags i
 
+-- what holds of a null and of each slot holds of each slot under its flag
+pub flagged_all : (P : Slot → Type 0) (slots : List Slot) (flags : List Bool) → P Nil → AllByRecursion P slots → AllByRecursion P (flagged_slots slots flags)
+flagged_all P [] flags none all = tt
+flagged_all P (s ∷ slots) [] none all = (all.0, flagged_all P slots [] none all.1)
+flagged_all P (s ∷ slots) (true ∷ flags) none all = (all.0, flagged_all P slots flags none all.1)
+flagged_all P (s ∷ slots) (false ∷ flags) none all = (none, flagged_all P slots flags none all.1)
+
 -- ---- one slot more
 
 pub flagged_valid : (slots : List Slot) (flags : List Bool) (slot : Slot) → FitsFlags (length flags) (length slots) →

@@ -1,3 +1,5 @@
+//! Frames of columns.
+
 mod columns;
 
 ghost use Rattle.std.specs.Prelude.{◌≡◌, ◌==◌, ℕ, ◌<◌, ◌^◌, length, map, None, Some, IfOk, IfErr, IfSome, IfNone, All, slice_get};
@@ -38,7 +40,8 @@ impl DataFrame {
 
     /// The frame of these columns, unless two have one name or their lengths differ.
     pub fn new(columns: Vec<Column>) -> PolarsResult<DataFrame>
-        ensures ok { IfOk result (λ f. (f ≡ map value_of columns.items) × (frame_fault (map value_of columns.items) ≡ None)) }
+        ensures ok { let frame = map value_of columns.items in
+            IfOk result (λ f. (f ≡ frame) × (frame_fault frame ≡ None)) }
         ensures err { IfErr result (λ e. Explains e (frame_fault (map value_of columns.items))) }
     {
         if let Some(name) = columns::repeated_name(&columns)? {
