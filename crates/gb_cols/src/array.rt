@@ -50,7 +50,8 @@ pub trait Array: Drop {
     /// The other's slot at a place, once more at the end.
     fn push_from(&mut self, other: &Self, i: usize) -> Result<(), AllocError>
         requires { i < length (slots other.now) }
-        ensures ok { OnOk result (slots self.new ≡ slots self.old ++ slot_at (slots other.now) i ∷ []) }
+        ensures ok { OnOk result
+            (slots self.new ≡ slots self.old ++ slot_at (slots other.now) i ∷ []) }
         ensures err { OnErr result (slots self.new ≡ slots self.old) };
 
     /// The same slots.

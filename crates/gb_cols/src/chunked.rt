@@ -36,9 +36,9 @@ pub type IdxCa = UInt32Chunked;
 pub type StringChunked = ChunkedArray<Utf8Array>;
 
 impl<A: Array> Model for ChunkedArray<A> {
-    ghost use Rattle.std.specs.Prelude.{List, map, length, ℕ, ◌<◌, ◌^◌, false, ◌++◌, ◌∷◌, []};
-    ghost use Rattle.std.specs.List.{flat_map};
-    ghost use Rattle.gb_defs.specs.Column.{ColumnValue, IsFlagTrue, column_code};
+    ghost use Rattle.std.specs.Prelude.{◌++◌, ◌∷◌, []};
+    ghost use Rattle.gb_defs.specs.Column.{ColumnValue, column_code};
+    ghost use Rattle.gb_cols.specs.Column.{column_of, IsSmallColumn};
     ghost use Rattle.gb_cols.specs.Sorted.{flag_of};
     ghost use Rattle.gb_cols.specs.PlSmallStr.{name_of};
 
@@ -46,9 +46,11 @@ impl<A: Array> Model for ChunkedArray<A> {
 
     ghost coded = { column_code };
 
-    ghost view = { λ c. record { name = name_of c.name; dtype = A.dtype; slots = flat_map A.slots (c.earlier.items ++ c.last ∷ []); chunks = map (λ a. length (A.slots a)) (c.earlier.items ++ c.last ∷ []); sorted = flag_of c.sorted; all_used = false } };
+    ghost view = { λ c. column_of A.slots A.dtype (name_of c.name) (flag_of c.sorted)
+        (c.earlier.items ++ c.last ∷ []) };
 
-    ghost invariant = { λ c. IsFlagTrue (flag_of c.sorted) A.dtype (flat_map A.slots (c.earlier.items ++ c.last ∷ [])) × (length (flat_map A.slots (c.earlier.items ++ c.last ∷ [])) < 2 ^ 63) };
+    ghost invariant = { λ c. IsSmallColumn (column_of A.slots A.dtype (name_of c.name)
+        (flag_of c.sorted) (c.earlier.items ++ c.last ∷ [])) };
 }
 
 impl<A: Array> ChunkedArray<A> {

@@ -20,7 +20,8 @@ pub trait Source {
     /// is the end of the input.
     fn read(&mut self, room: &mut [u8]) -> Result<usize, Failed>
         ensures count { IfOk result (λ n. n ≤ length room.new) }
-        ensures bytes { IfOk result (λ n. left self.old ≡ with_front (take n room.new) (left self.new)) }
+        ensures bytes { IfOk result
+            (λ n. left self.old ≡ with_front (take n room.new) (left self.new)) }
         ensures ends { IfOk result (λ n. n ≡ 0 → 0 < length room.new → HasNone (left self.new)) }
         ensures failed { OnErr result (Rose (faults self.old) (faults self.new)) }
         ensures kept { faults self.old ≤ faults self.new };
@@ -39,7 +40,8 @@ pub trait Sink {
     fn write(&mut self, piece: &[u8]) -> Result<usize, Failed>
         ensures count { IfOk result (λ n. n ≤ length piece.now) }
         ensures some { IfOk result (λ n. 0 < length piece.now → 0 < n) }
-        ensures bytes { IfOk result (λ n. held self.new ≡ with_piece (held self.old) (take n piece.now)) }
+        ensures bytes { IfOk result
+            (λ n. held self.new ≡ with_piece (held self.old) (take n piece.now)) }
         ensures failed { OnErr result (Rose (faults self.old) (faults self.new)) }
         ensures nothing { OnErr result (held self.new ≡ held self.old) }
         ensures kept { faults self.old ≤ faults self.new };

@@ -99,7 +99,8 @@ impl Sink for MemSink {
     fn write(&mut self, piece: &[u8]) -> Result<usize, Failed>
         ensures count { IfOk result (λ n. n ≤ length piece.now) }
         ensures some { IfOk result (λ n. 0 < length piece.now → 0 < n) }
-        ensures bytes { IfOk result (λ n. Some (bytes_in self.new) ≡ with_piece (Some (bytes_in self.old)) (take n piece.now)) }
+        ensures bytes { IfOk result (λ n. Some (bytes_in self.new)
+            ≡ with_piece (Some (bytes_in self.old)) (take n piece.now)) }
         ensures failed { OnErr result (Rose (faults_of self.old) (faults_of self.new)) }
         ensures nothing { OnErr result (Some (bytes_in self.new) ≡ Some (bytes_in self.old)) }
         ensures kept { faults_of self.old ≤ faults_of self.new }

@@ -86,7 +86,8 @@ impl DataFrame {
     /// Where the column of this name stands.
     pub fn position(&self, name: &str) -> Option<usize>
         ensures within { IfSome result (λ place. place < length self.now) }
-        ensures some { IfSome result (λ place. slice_get self.now place ≡ find_column self.now name.now) }
+        ensures some { IfSome result
+            (λ place. slice_get self.now place ≡ find_column self.now name.now) }
         ensures none { IfNone result (find_column self.now name.now ≡ None) }
     {
         columns::position_of(&self.columns, name)
@@ -94,7 +95,8 @@ impl DataFrame {
 
     /// The column of this name.
     pub fn column(&self, name: &str) -> PolarsResult<&Column>
-        ensures ok { IfOk result (λ column. find_column self.now name.now ≡ Some (value_of column.now)) }
+        ensures ok { IfOk result
+            (λ column. find_column self.now name.now ≡ Some (value_of column.now)) }
         ensures err { IfErr result (λ e. Explains e (missing_column self.now name.now)) }
     {
         match columns::position_of(&self.columns, name) {

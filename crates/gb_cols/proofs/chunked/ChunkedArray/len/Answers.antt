@@ -12,7 +12,7 @@ overflow_add-total g c =
     let whole = ap (λ es. length (all_slots slots es c.self.inside.last)) c.deref-chunk-items.ensures.value in
     let more = before_more slots chunks c.chunk-item.result c.loop-chunk.chunk-index c.loop-chunk-test.true c.chunk-item.is in
     let few = before_few slots chunks c.self.inside.last (c.loop-chunk.chunk-index + 1) in
-    omega (arith, c.self.invariant.1, whole, more, few, c.len-total.ensures.value, c.loop-chunk.invariant.counted)
+    omega (arith, c.self.invariant.small, whole, more, few, c.len-total.ensures.value, c.loop-chunk.invariant.counted)
 
 pub loop-chunk-preserved : goal.loop-chunk-preserved
 loop-chunk-preserved g c =
@@ -29,7 +29,7 @@ overflow_add-result g c =
     let slots = g.A.Array.slots in
     let whole = ap (λ es. length (all_slots slots es c.self.inside.last)) c.deref-chunk-items.ensures.value in
     let few = before_few slots c.deref-chunk-items.result.now c.self.inside.last c.loop-chunk.chunk-index in
-    omega (arith, c.self.invariant.1, whole, few, c.len.ensures.value, c.loop-chunk.invariant.counted)
+    omega (arith, c.self.invariant.small, whole, few, c.len.ensures.value, c.loop-chunk.invariant.counted)
 
 pub returns-clause-value : goal.returns-clause-value
 returns-clause-value g c =
@@ -44,7 +44,7 @@ returns-clause-small g c =
     let slots = g.A.Array.slots in
     let whole = ap (λ es. length (all_slots slots es c.self.inside.last)) c.deref-chunk-items.ensures.value in
     let all = before_all slots c.deref-chunk-items.result.now c.self.inside.last c.loop-chunk.chunk-index c.loop-chunk-test.false in
-    omega (arith, c.self.invariant.1, whole, all, c.len.ensures.value, c.loop-chunk.invariant.counted)
+    omega (arith, c.self.invariant.small, whole, all, c.len.ensures.value, c.loop-chunk.invariant.counted)
 
 pub returns-clause-chunks : goal.returns-clause-chunks
 returns-clause-chunks g c =

@@ -16,7 +16,8 @@ pub invariant_of-result : goal.invariant_of-result
 invariant_of-result g c =
     let whole = c.loop-row.invariant ∙ ap (map (slot_at c.args.self.now.slots)) (take_all c.loop-row.row-index c.args.rows.now c.loop-row-test.false) in
     let few : length c.args.rows.now < 2 ^ 63 = search rules in
-    rw (c.new.ensures.items, append-nil (g.A.Array.slots c.loop-row.taken), whole, length-map c.args.rows.now (slot_at c.args.self.now.slots)) (tt, few)
+    rw (c.new.ensures.items, append-nil (g.A.Array.slots c.loop-row.taken), whole)
+    (record { flag_true = tt; small = rw (length-map c.args.rows.now (slot_at c.args.self.now.slots)) few })
 
 pub returns-clause-ok : goal.returns-clause-ok
 returns-clause-ok g c =
