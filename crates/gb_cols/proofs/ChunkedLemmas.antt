@@ -1,12 +1,12 @@
 -- The slots and the chunk lengths of a column whose last chunk stands apart.
-use Rattle.std.proofs.Common.{◌≡◌, ℕ, ◌+◌, ◌-◌, ◌<◌, ◌≤◌, List, [], ◌∷◌, ◌++◌, length, get_or, take, drop, map, refl, sym, ◌∙◌, ap, arith, false, cond, subst}
+use Rattle.std.proofs.Common.{◌≡◌, ℕ, ◌+◌, ◌<◌, ◌≤◌, List, [], ◌∷◌, ◌++◌, length, get_or, take, drop, map, refl, sym, ◌∙◌, ap, arith, false, cond, subst}
 use Rattle.std.specs.List.{All, count_by, flat_map, sum}
 use Rattle.std.proofs.lemmas.List.Concat.{length-flat_map}
 use Rattle.std.proofs.lemmas.List.Elements.{All-append}
 use Rattle.std.proofs.lemmas.List.Sums.{count_by-le-length, sum-map, sum_by-append}
-use Rattle.std.proofs.lemmas.List.{append-nil, append_assoc, length-append, drop_more, get_or_append_left, get_or-append_right, length_push, take_more, take-append-drop, take_all, drop_all}
+use Rattle.std.proofs.lemmas.List.{append-nil, append_assoc, length-append, length_push, take_more, take-append-drop, take_all}
 use Rattle.std.proofs.lemmas.Grind.{flat_map-append}
-use Rattle.gb_defs.specs.Slot.{Slot, Nil, is_nil, slot_at}
+use Rattle.gb_defs.specs.Slot.{Slot, is_nil}
 use Rattle.gb_defs.specs.ColumnType.{ColumnType}
 use Rattle.gb_defs.specs.Column.{ColumnValue, SortedFlag, NotSorted, fresh_column}
 use Rattle.gb_cols.specs.Column.{longer_last, pushed}
@@ -23,10 +23,10 @@ module _ {A : Type 0} (slots : A → List Slot) where
   abbrev pub all_lengths : List A → A → List ℕ
   all_lengths earlier last = map (λ a. length (slots a)) (earlier ++ last ∷ [])
 
-  pub all_slots_is : (earlier : List A) (last : A) → all_slots earlier last ≡ flat_map slots earlier ++ slots last
+  all_slots_is : (earlier : List A) (last : A) → all_slots earlier last ≡ flat_map slots earlier ++ slots last
   all_slots_is earlier last = flat_map-append slots earlier (last ∷ []) ∙ ap (λ ss. flat_map slots earlier ++ ss) (append-nil (slots last))
 
-  pub slots_pushed : (earlier : List A) (last new : A) (s : Slot) → slots new ≡ slots last ++ s ∷ [] → all_slots earlier new ≡ all_slots earlier last ++ s ∷ []
+  slots_pushed : (earlier : List A) (last new : A) (s : Slot) → slots new ≡ slots last ++ s ∷ [] → all_slots earlier new ≡ all_slots earlier last ++ s ∷ []
   slots_pushed earlier last new s e =
       all_slots_is earlier new ∙ ap (λ ss. flat_map slots earlier ++ ss) e ∙ sym (append_assoc (flat_map slots earlier) (slots last) (s ∷ []))
       ∙ ap (λ ss. ss ++ s ∷ []) (sym (all_slots_is earlier last))
@@ -35,7 +35,7 @@ module _ {A : Type 0} (slots : A → List Slot) where
   lengths_is [] last = refl
   lengths_is (e ∷ es) last = ap (λ ns. length (slots e) ∷ ns) (lengths_is es last)
 
-  pub lengths_pushed : (earlier : List A) (last new : A) (s : Slot) → slots new ≡ slots last ++ s ∷ [] → all_lengths earlier new ≡ longer_last (all_lengths earlier last)
+  lengths_pushed : (earlier : List A) (last new : A) (s : Slot) → slots new ≡ slots last ++ s ∷ [] → all_lengths earlier new ≡ longer_last (all_lengths earlier last)
   lengths_pushed earlier last new s e =
       lengths_is earlier new ∙ ap (λ n. map (λ a. length (slots a)) earlier ++ n ∷ []) (ap length e ∙ length_push (slots last) s)
       ∙ sym (ap longer_last (lengths_is earlier last) ∙ longer_last-append (map (λ a. length (slots a)) earlier) (length (slots last)))
@@ -57,18 +57,6 @@ module _ {A : Type 0} (slots : A → List Slot) where
 
   abbrev pub from_chunk : List A → A → ℕ → List Slot
   from_chunk earlier last i = all_slots (drop i earlier) last
-
-  pub from_more : (earlier : List A) (last a : A) (i : ℕ) → i < length earlier → a ≡ get_or earlier i a → from_chunk earlier last i ≡ slots a ++ from_chunk earlier last (i + 1)
-  from_more earlier last a i lt read = ap (λ es. all_slots es last) (drop_more earlier i a lt) ∙ ap (λ b. slots b ++ from_chunk earlier last (i + 1)) (sym read)
-
-  pub at_here : (a : A) (rest : List Slot) (place : ℕ) → place < length (slots a) → slot_at (slots a) place ≡ slot_at (slots a ++ rest) place
-  at_here a rest place lt = sym (get_or_append_left (slots a) rest Nil place lt)
-
-  pub at_later : (a : A) (rest : List Slot) (place : ℕ) → length (slots a) ≤ place → slot_at rest (place - length (slots a)) ≡ slot_at (slots a ++ rest) place
-  at_later a rest place le = sym (get_or-append_right (slots a) rest (length (slots a)) place Nil refl le)
-
-  pub at_last : (earlier : List A) (last : A) (i : ℕ) → length earlier ≤ i → from_chunk earlier last i ≡ slots last
-  at_last earlier last i le = rw (drop_all i earlier le) (append-nil (slots last))
 
   -- ---- the chunks before the i-th
 

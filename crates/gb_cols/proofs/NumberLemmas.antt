@@ -6,7 +6,7 @@ use Rattle.std.proofs.lemmas.List.Elements.{All-append, All-cons, All-nil}
 use Rattle.gb_defs.specs.ColumnType.{ColumnType, Fits}
 use Rattle.gb_defs.specs.Slot.{Slot, Nil, Num, is_nil, slot_at}
 use Rattle.gb_cols.specs.Array.{FitsFlags, IsPrimitiveArray, filled, primitive_slots, valid_pushed}
-use Rattle.gb_cols.proofs.FlagLemmas.{fits_null, fits_valid, flagged_at, flagged_length, flagged_none, flagged_null, flagged_nulls, flagged_valid, flags_few, flag_tells}
+use Rattle.gb_cols.proofs.FlagLemmas.{fits_null, fits_valid, flagged_at, flagged_length, flagged_null, flagged_nulls, flagged_valid, flags_few, flag_tells}
 
 module _ {N : Type 0} (number : N → ℤ) where
   abbrev slot_of : N → Slot
@@ -44,9 +44,6 @@ module _ {N : Type 0} (number : N → ℤ) where
       primitive_slots number (values ++ n ∷ []) (filled count flags ++ false ∷ []) ≡ primitive_slots number values flags ++ Nil ∷ []
   null_pushed values flags n count long fits =
       rw (map-append slot_of values (n ∷ [])) (flagged_null (map slot_of values) flags (slot_of n) count (long ∙ sym (length-map values slot_of)) (fits_slots values flags fits))
-
-  pub numbers_whole : (values : List N) → primitive_slots number values [] ≡ map slot_of values
-  numbers_whole values = flagged_none (map slot_of values)
 
   numbers_no_nil : (values : List N) → AllByRecursion (λ slot. is_nil slot ≡ false) (map slot_of values)
   numbers_no_nil [] = tt

@@ -1,3 +1,5 @@
+//! Each public call of the crate once.
+
 use crate::array::Array;
 use crate::chunked::{Int64Chunked, StringChunked, UInt32Chunked};
 use crate::data_type::DataType;
