@@ -147,7 +147,7 @@ impl<A: Array> ChunkedArray<A> {
     /// What is known of the order of the slots.
     pub fn is_sorted_flag(&self) -> IsSorted
         ensures value { flag_of result ≡ self.now.sorted }
-        ensures so { IsFlagTrue self.now.sorted self.now.dtype self.now.slots }
+        ensures holds { IsFlagTrue self.now.sorted self.now.dtype self.now.slots }
     {
         self.sorted
     }
