@@ -3,7 +3,7 @@ use Rattle.std.proofs.Common.{◌≡◌, inl, inr, ℕ, zero, suc, ◌+◌, ◌�
 use Rattle.std.proofs.lemmas.List.{length-append, length-replicate}
 use Rattle.std.specs.List.{AllByRecursion, count_by}
 use Rattle.std.proofs.lemmas.List.Sums.{sum_by-append}
-use Rattle.gb_defs.specs.Slot.{Slot, Nil, Num, Bytes, Items, is_nil, slot_at}
+use Rattle.gb_defs.specs.Slot.{Slot, Nil, is_nil, slot_at}
 use Rattle.gb_cols.specs.Array.{FitsFlags, filled, flagged_slots, valid_pushed}
 
 pub flagged_none : (slots : List Slot) → flagged_slots slots [] ≡ slots
@@ -35,6 +35,13 @@ flagged_at (s ∷ slots) [] i = ap (λ ss. slot_at ss i) (flagged_none (s ∷ sl
 flagged_at (s ∷ slots) (f ∷ flags) zero = refl
 flagged_at (s ∷ slots) (f ∷ flags) (suc i) = flagged_at slots flags i
 
+-- what holds of a null and of each slot holds of each slot under its flag
+pub flagged_all : (P : Slot → Type 0) (slots : List Slot) (flags : List Bool) → P Nil → AllByRecursion P slots → AllByRecursion P (flagged_slots slots flags)
+flagged_all P [] flags none all = tt
+flagged_all P (s ∷ slots) [] none all = (all.0, flagged_all P slots [] none all.1)
+flagged_all P (s ∷ slots) (true ∷ flags) none all = (all.0, flagged_all P slots flags none all.1)
+flagged_all P (s ∷ slots) (false ∷ flags) none all = (none, flagged_all P slots flags none all.1)
+
 -- ---- one slot more
 
 pub flagged_valid : (slots : List Slot) (flags : List Bool) (slot : Slot) → FitsFlags (length flags) (length slots) →
@@ -62,12 +69,6 @@ fits_null (f ∷ flags) count (inl none) = absurd (omega arith)
 fits_null (f ∷ flags) count (inr each) = inr (omega (arith, length-append (f ∷ flags) (false ∷ [])))
 
 -- ---- whether a slot is null
-
-pub nil_from : (slot : Slot) → is_nil slot ≡ true → slot ≡ Nil
-nil_from Nil e = refl
-nil_from (Num n) e = cc
-nil_from (Bytes bs) e = cc
-nil_from (Items ss) e = cc
 
 -- a slot that is no null, under its flag
 pub flag_tells : (flag : Bool) (slot : Slot) → is_nil slot ≡ false → flag ≡ not (is_nil (cond flag slot Nil))

@@ -1,11 +1,13 @@
 -- The slots of a storage of texts: the pieces that its places cut from its bytes, under their flags.
 use Rattle.std.proofs.Common.{◌≡◌, ◌≤◌, ◌<◌, ◌-◌, ℕ, zero, suc, Bool, true, false, List, [], ◌∷◌, ◌++◌, take, drop, length, map, refl, sym, ◌∙◌, ap, cond, arith, get_or, not, subst}
 use Rattle.std.specs.Prelude.{IsUtf8}
-use Rattle.std.specs.List.{AllByRecursion, count_by}
+use Rattle.std.specs.List.{All, AllByRecursion, count_by}
+use Rattle.std.proofs.lemmas.List.Elements.{All-from_recursion}
+use Rattle.gb_defs.specs.ColumnType.{Fits, text}
 use Rattle.std.proofs.lemmas.List.{append-nil, drop-append-le, get_or-map, length-append, length-drop, length-map, map-append, take-append-le, take_all}
 use Rattle.gb_defs.specs.Slot.{Slot, Nil, Bytes, is_nil, slot_at}
 use Rattle.gb_cols.specs.Array.{FitsFlags, IsUtf8Array, Rises, filled, pieces_from, start_of, utf8_slots, valid_pushed}
-use Rattle.gb_cols.proofs.FlagLemmas.{fits_null, fits_valid, flagged_at, flagged_length, flagged_null, flagged_nulls, flagged_valid, flags_few, flag_tells}
+use Rattle.gb_cols.proofs.FlagLemmas.{fits_null, fits_valid, flagged_all, flagged_at, flagged_length, flagged_null, flagged_nulls, flagged_valid, flags_few, flag_tells}
 
 abbrev slot_of : List ℕ → Slot
 slot_of piece = Bytes piece
@@ -155,3 +157,14 @@ module _ {bytes ends : List ℕ} {flags : List Bool} (is : IsUtf8Array bytes end
   text_nulls =
       flagged_nulls (map slot_of (pieces_from 0 ends bytes)) flags (texts_no_nil (pieces_from 0 ends bytes))
       (flags_few (length flags) (length (map slot_of (pieces_from 0 ends bytes))) fits_slots)
+
+  -- ---- each fits the type
+
+  pieces_fit : (pieces : List (List ℕ)) → AllByRecursion IsUtf8 pieces → AllByRecursion (Fits text) (map slot_of pieces)
+  pieces_fit [] all = tt
+  pieces_fit (piece ∷ pieces) all = (all.0, pieces_fit pieces all.1)
+
+  pub texts_fit : All (Fits text) (utf8_slots bytes ends flags)
+  texts_fit =
+      All-from_recursion (Fits text) (utf8_slots bytes ends flags)
+      (flagged_all (Fits text) (map slot_of (pieces_from 0 ends bytes)) flags tt (pieces_fit (pieces_from 0 ends bytes) is.texts))

@@ -1,7 +1,8 @@
 -- The slots of the storages.
 use Rattle.std.specs.Prelude.{◌≡◌, ◌⊎◌, ◌≤◌, ℕ, zero, suc, ◌-◌, ℤ, List, [], ◌∷◌, map, take, drop, length, replicate, get_or, ◌++◌, Bool, true, if◌then◌else◌, Option, None, Some, IsUtf8}
-use Rattle.std.specs.List.{AllByRecursion}
+use Rattle.std.specs.List.{All, AllByRecursion}
 use Rattle.std.specs.Borrow.{Bor}
+use Rattle.gb_defs.specs.ColumnType.{ColumnType, Fits}
 use Rattle.gb_defs.specs.Slot.{Slot, Nil, Num, Bytes}
 
 -- values with a flag each, null where it is false
@@ -28,6 +29,12 @@ FitsFlags flags values = (flags ≡ 0) ⊎ (flags ≡ values)
 abbrev pub primitive_slots : {N : Type 0} → (N → ℤ) → List N → List Bool → List Slot
 primitive_slots number values flags = flagged_slots (map (λ n. Num (number n)) values) flags
 
+-- the flags fit the values, and the slots fit the type
+pub record IsPrimitiveArray {N : Type 0} (number : N → ℤ) (t : ColumnType) (values : List N) (flags : List Bool) : Type 0 where
+  pub flagged : FitsFlags (length flags) (length values)
+  pub fitting : All (Fits t) (primitive_slots number values flags)
+
+-- the slot of a number that may be missing
 abbrev pub number_slot_of : {N : Type 0} → (N → ℤ) → Option N → Slot
 number_slot_of number None = Nil
 number_slot_of number (Some n) = Num (number n)
@@ -42,6 +49,7 @@ abbrev pub start_of : ℕ → List ℕ → ℕ → ℕ
 start_of start ends zero = start
 start_of start ends (suc i) = get_or ends i 0
 
+-- texts that end at these places, of which those with a flag that is false are null
 abbrev pub utf8_slots : List ℕ → List ℕ → List Bool → List Slot
 utf8_slots bytes ends flags = flagged_slots (map (λ piece. Bytes piece) (pieces_from 0 ends bytes)) flags
 
@@ -56,6 +64,7 @@ pub record IsUtf8Array (bytes ends : List ℕ) (flags : List Bool) : Type 0 wher
   pub texts : AllByRecursion IsUtf8 (pieces_from 0 ends bytes)
   pub flagged : FitsFlags (length flags) (length ends)
 
+-- the slot of a text that may be missing
 abbrev pub text_slot : Option (Bor (List ℕ)) → Slot
 text_slot None = Nil
 text_slot (Some text) = Bytes text.now

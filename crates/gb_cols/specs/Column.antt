@@ -1,7 +1,19 @@
--- What a push and an append do to a column.
-use Rattle.std.specs.Prelude.{ℕ, ◌+◌, List, [], ◌∷◌, ◌++◌, false}
+-- The column that chunks make, and what a push and an append do to it.
+use Rattle.std.specs.Prelude.{ℕ, ◌+◌, ◌<◌, ◌^◌, List, [], ◌∷◌, ◌++◌, map, length, false}
+use Rattle.std.specs.List.{flat_map}
 use Rattle.gb_defs.specs.Slot.{Slot}
-use Rattle.gb_defs.specs.Column.{ColumnValue, NotSorted}
+use Rattle.gb_defs.specs.ColumnType.{ColumnType}
+use Rattle.gb_defs.specs.Column.{ColumnValue, IsFlagTrue, NotSorted, SortedFlag}
+
+-- the column of these chunks
+abbrev pub column_of : {A : Type 0} → (A → List Slot) → ColumnType → List ℕ → SortedFlag → List A → ColumnValue
+column_of slots dtype name flag chunks =
+    record { name = name; dtype = dtype; slots = flat_map slots chunks; chunks = map (λ a. length (slots a)) chunks; sorted = flag; all_used = false }
+
+-- the flag is true, and the slots are fewer than 2^63
+pub record IsSmallColumn (c : ColumnValue) : Type 0 where
+  pub flag_true : IsFlagTrue c.sorted c.dtype c.slots
+  pub small : length c.slots < 2 ^ 63
 
 -- the lengths of chunks of which the last has one slot more
 abbrev pub longer_last : List ℕ → List ℕ

@@ -2,6 +2,7 @@ pub mod Array
 pub mod Column
 pub mod DataType
 pub mod Device
+pub mod ErrorText
 pub mod FitsPool
 pub mod Memory
 pub mod Native

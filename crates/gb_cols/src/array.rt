@@ -1,7 +1,9 @@
-ghost use Rattle.std.specs.Prelude.{◌≡◌, ℕ, ◌+◌, ◌++◌, ◌∷◌, ◌<◌, [], List, not, length, IfOk, OnOk, OnErr};
+//! What each storage of columns can do.
+
+ghost use Rattle.std.specs.Prelude.{◌≡◌, ℕ, ◌++◌, ◌∷◌, ◌<◌, ◌^◌, [], List, not, length, All, IfOk, OnOk, OnErr};
 ghost use Rattle.std.specs.List.{count_by};
 ghost use Rattle.gb_defs.specs.Slot.{Slot, Nil, is_nil, slot_at};
-ghost use Rattle.gb_defs.specs.ColumnType.{ColumnType};
+ghost use Rattle.gb_defs.specs.ColumnType.{ColumnType, Fits};
 ghost use Rattle.gb_cols.specs.DataType.{type_of};
 
 use crate::data_type::DataType;
@@ -22,8 +24,11 @@ pub trait Array: Drop {
     fn data_type() -> DataType
         ensures { type_of result ≡ dtype };
 
+    /// How many slots there are. Each fits the type.
     fn len(&self) -> usize
-        ensures { result ≡ length (slots self.now) };
+        ensures value { result ≡ length (slots self.now) }
+        ensures small { result < 2 ^ 63 }
+        ensures fitting { All (Fits dtype) (slots self.now) };
 
     /// Whether the slot at a place is no null.
     fn is_valid(&self, i: usize) -> bool
@@ -45,7 +50,8 @@ pub trait Array: Drop {
     /// The other's slot at a place, once more at the end.
     fn push_from(&mut self, other: &Self, i: usize) -> Result<(), AllocError>
         requires { i < length (slots other.now) }
-        ensures ok { OnOk result (slots self.new ≡ slots self.old ++ slot_at (slots other.now) i ∷ []) }
+        ensures ok { OnOk result
+            (slots self.new ≡ slots self.old ++ slot_at (slots other.now) i ∷ []) }
         ensures err { OnErr result (slots self.new ≡ slots self.old) };
 
     /// The same slots.

@@ -1,5 +1,7 @@
-ghost use Rattle.std.specs.Prelude.{◌≡◌, ◌==◌, ℕ, ◌+◌, ◌<◌, ◌≤◌, ◌∷◌, ◌++◌, ◌^◌, [], pos, length, map, IfOk, IfErr, OnOk, OnErr, All};
-ghost use Rattle.gb_defs.specs.Slot.{Slot, Nil, slot_at};
+//! Named columns of any storage.
+
+ghost use Rattle.std.specs.Prelude.{◌≡◌, ◌==◌, ◌+◌, ◌<◌, ◌^◌, [], length, sum, IfOk, IfErr, OnOk, OnErr, All};
+ghost use Rattle.gb_defs.specs.Slot.{Nil, slot_at};
 
 mod numbers;
 mod texts;
@@ -34,9 +36,9 @@ pub type IdxCa = UInt32Chunked;
 pub type StringChunked = ChunkedArray<Utf8Array>;
 
 impl<A: Array> Model for ChunkedArray<A> {
-    ghost use Rattle.std.specs.Prelude.{List, map, length, ℕ, ◌<◌, ◌^◌, false, ◌++◌, ◌∷◌, []};
-    ghost use Rattle.std.specs.List.{flat_map};
-    ghost use Rattle.gb_defs.specs.Column.{ColumnValue, IsFlagTrue, column_code};
+    ghost use Rattle.std.specs.Prelude.{◌++◌, ◌∷◌, []};
+    ghost use Rattle.gb_defs.specs.Column.{ColumnValue, column_code};
+    ghost use Rattle.gb_cols.specs.Column.{column_of, IsSmallColumn};
     ghost use Rattle.gb_cols.specs.Sorted.{flag_of};
     ghost use Rattle.gb_cols.specs.PlSmallStr.{name_of};
 
@@ -44,9 +46,11 @@ impl<A: Array> Model for ChunkedArray<A> {
 
     ghost coded = { column_code };
 
-    ghost view = { λ c. record { name = name_of c.name; dtype = A.dtype; slots = flat_map A.slots (c.earlier.items ++ c.last ∷ []); chunks = map (λ a. length (A.slots a)) (c.earlier.items ++ c.last ∷ []); sorted = flag_of c.sorted; all_used = false } };
+    ghost view = { λ c. column_of A.slots A.dtype (name_of c.name) (flag_of c.sorted)
+        (c.earlier.items ++ c.last ∷ []) };
 
-    ghost invariant = { λ c. IsFlagTrue (flag_of c.sorted) A.dtype (flat_map A.slots (c.earlier.items ++ c.last ∷ [])) × (length (flat_map A.slots (c.earlier.items ++ c.last ∷ [])) < 2 ^ 63) };
+    ghost invariant = { λ c. IsSmallColumn (column_of A.slots A.dtype (name_of c.name)
+        (flag_of c.sorted) (c.earlier.items ++ c.last ∷ [])) };
 }
 
 impl<A: Array> ChunkedArray<A> {
@@ -56,7 +60,8 @@ impl<A: Array> ChunkedArray<A> {
     ghost use Rattle.gb_cols.specs.Sorted.{flag_of};
     ghost use Rattle.std.specs.List.{count_by};
     ghost use Rattle.gb_defs.specs.Slot.{is_nil};
-    ghost use Rattle.gb_defs.specs.Column.{fresh_column};
+    ghost use Rattle.gb_defs.specs.Column.{fresh_column, taken, IsFlagTrue};
+    ghost use Rattle.gb_defs.specs.ColumnType.{Fits};
 
     /// No slots.
     pub fn new(alloc: Global, name: PlSmallStr) -> Self
@@ -72,9 +77,10 @@ impl<A: Array> ChunkedArray<A> {
 
     // The column of one chunk.
     fn from_chunk(alloc: Global, name: PlSmallStr, chunk: A) -> Self
-        requires { length (A.slots chunk) < 2 ^ 63 }
         ensures { result ≡ fresh_column (name_of name) A.dtype (A.slots chunk) }
     {
+        // Its clauses say that the chunk is not too long.
+        let _ = chunk.len();
         ChunkedArray {
             name,
             earlier: Vec::new(alloc),
@@ -102,14 +108,17 @@ impl<A: Array> ChunkedArray<A> {
         ensures ok { IfOk result (λ dtype. type_of dtype ≡ self.now.dtype) }
         ensures err { IfErr result IsNoMemory }
     {
+        // The use of a field brings in the type's invariant.
         let _ = &self.name;
         Ok(A::data_type())
     }
 
-    /// One pass over the chunks.
+    /// One pass over the chunks. It also tells what holds of each column's slots and chunks.
     pub fn len(&self) -> usize
         ensures value { result ≡ length self.now.slots }
         ensures small { result < 2 ^ 63 }
+        ensures chunks { sum self.now.chunks ≡ length self.now.slots }
+        ensures fitting { All (Fits self.now.dtype) self.now.slots }
     {
         let mut total = 0;
         for chunk in &self.earlier {
@@ -135,8 +144,10 @@ impl<A: Array> ChunkedArray<A> {
         total + self.last.null_count()
     }
 
+    /// What is known of the order of the slots.
     pub fn is_sorted_flag(&self) -> IsSorted
-        ensures { flag_of result ≡ self.now.sorted }
+        ensures value { flag_of result ≡ self.now.sorted }
+        ensures holds { IsFlagTrue self.now.sorted self.now.dtype self.now.slots }
     {
         self.sorted
     }
@@ -194,9 +205,8 @@ impl<A: Array> ChunkedArray<A> {
 
     /// The slots of these rows, in one chunk.
     pub fn take(&self, rows: &[u32]) -> PolarsResult<Self>
-        requires in_range { All (λ row. row < length self.now.slots) rows.now }
-        requires few { length rows.now < 2 ^ 63 }
-        ensures ok { IfOk result (λ c. c ≡ fresh_column self.now.name self.now.dtype (map (slot_at self.now.slots) rows.now)) }
+        requires { All (λ row. row < length self.now.slots) rows.now }
+        ensures ok { IfOk result (λ c. c ≡ taken rows.now self.now) }
         ensures err { IfErr result IsNoMemory }
     {
         let mut taken = A::empty(self.allocator());

@@ -1,3 +1,8 @@
+//! Why a call was refused, and the line that tells it.
+
+ghost use Rattle.std.specs.Prelude.{Some};
+ghost use Rattle.gb_cols.specs.ErrorText.{error_text, operation_text};
+
 use crate::small_str::PlSmallStr;
 use std::alloc::{AllocError, AllocFailed};
 use std::fmt;
@@ -14,6 +19,8 @@ pub enum Operation {
 }
 
 impl fmt::Display for Operation {
+    ghost output = { λ operation. Some (operation_text operation) };
+
     fn fmt<W: fmt::Write>(&self, f: &mut fmt::Formatter<W>) -> fmt::Result {
         match self {
             Operation::Sum => write!(f, "sum"),
@@ -42,6 +49,8 @@ pub enum PolarsError {
 pub type PolarsResult<T> = Result<T, PolarsError>;
 
 impl fmt::Display for PolarsError {
+    ghost output = { λ e. Some (error_text e) };
+
     fn fmt<W: fmt::Write>(&self, f: &mut fmt::Formatter<W>) -> fmt::Result {
         match self {
             PolarsError::ComputeError => write!(f, "compute"),
@@ -71,10 +80,9 @@ impl fmt::Display for PolarsError {
 impl std::error::Error for PolarsError {}
 
 impl From<AllocError> for PolarsError {
-    ghost use Rattle.std.specs.Prelude.{◌≡◌};
-    ghost use Rattle.gb_cols.specs.declared.error.PolarsError.TheVariants.{NoMemory};
+    ghost use Rattle.gb_cols.specs.PlSmallStr.{IsNoMemory};
 
-    ghost from_gives = { λ _ e. e ≡ NoMemory };
+    ghost from_gives = { λ _ e. IsNoMemory e };
 
     fn from(_: AllocError) -> PolarsError {
         PolarsError::NoMemory
@@ -82,10 +90,9 @@ impl From<AllocError> for PolarsError {
 }
 
 impl<T: Drop> From<AllocFailed<T>> for PolarsError {
-    ghost use Rattle.std.specs.Prelude.{◌≡◌};
-    ghost use Rattle.gb_cols.specs.declared.error.PolarsError.TheVariants.{NoMemory};
+    ghost use Rattle.gb_cols.specs.PlSmallStr.{IsNoMemory};
 
-    ghost from_gives = { λ _ e. e ≡ NoMemory };
+    ghost from_gives = { λ _ e. IsNoMemory e };
 
     fn from(_: AllocFailed<T>) -> PolarsError {
         PolarsError::NoMemory

@@ -1,7 +1,7 @@
 //! Devices in memory: they tell their bytes.
 
-ghost use Rattle.std.specs.Prelude.{◌≡◌, ℕ, ◌<◌, ◌≤◌, [], ◌++◌, take, drop, length, min, Some, IfOk, IfErr, OnErr, IfSome, option_map, vec_len, is_err};
-ghost use Rattle.gb_cols.specs.Device.{Rose};
+ghost use Rattle.std.specs.Prelude.{◌≡◌, ◌<◌, ◌≤◌, [], take, length, IfOk, IfErr, OnErr, vec_len};
+ghost use Rattle.gb_cols.specs.Device.{Rose, with_piece};
 
 use crate::device::{Failed, Gate, Sink, Source};
 use crate::error::PolarsResult;
@@ -89,8 +89,8 @@ impl MemSink {
 }
 
 impl Sink for MemSink {
-    ghost use Rattle.gb_cols.specs.Memory.{bytes_in, room_in, most_of, faults_of, fails_at, IsNextCall};
-    ghost use Rattle.std.specs.Prelude.{Some, min, is_err};
+    ghost use Rattle.gb_cols.specs.Memory.{bytes_in, faults_of, fails_at, taken_by, IsNextCall, HasTaken, HasFailed};
+    ghost use Rattle.std.specs.Prelude.{Some, is_err};
 
     ghost held = { λ s. Some (bytes_in s) };
 
@@ -99,15 +99,18 @@ impl Sink for MemSink {
     fn write(&mut self, piece: &[u8]) -> Result<usize, Failed>
         ensures count { IfOk result (λ n. n ≤ length piece.now) }
         ensures some { IfOk result (λ n. 0 < length piece.now → 0 < n) }
-        ensures bytes { IfOk result (λ n. Some (bytes_in self.new) ≡ option_map (λ before. before ++ take n piece.now) (Some (bytes_in self.old))) }
+        ensures bytes { IfOk result (λ n. Some (bytes_in self.new)
+            ≡ with_piece (Some (bytes_in self.old)) (take n piece.now)) }
         ensures failed { OnErr result (Rose (faults_of self.old) (faults_of self.new)) }
         ensures nothing { OnErr result (Some (bytes_in self.new) ≡ Some (bytes_in self.old)) }
         ensures kept { faults_of self.old ≤ faults_of self.new }
 
         // It fails exactly at the calls that are listed, and where no room is left.
         ensures fails { is_err result ≡ fails_at self.old piece.now }
-        ensures least { IfOk result (λ n. n ≡ min (length piece.now) (min (most_of self.old) (room_in self.old))) }
+        ensures least { IfOk result (λ n. n ≡ taken_by self.old piece.now) }
         ensures counted { IsNextCall self.old self.new }
+        ensures taken { IfOk result (λ n. HasTaken n self.old self.new) }
+        ensures refused { OnErr result (HasFailed self.old self.new) }
     {
         self.calls = self.calls.saturating_add(1);
         let room = self.buffer.len() - self.filled;

@@ -1,6 +1,9 @@
-ghost use Rattle.std.specs.Prelude.{◌≡◌, ℤ, pos, ◌+ℤ◌};
+//! The whole-number types of columns.
+
+ghost use Rattle.std.specs.Prelude.{◌≡◌, ◌<◌, ◌^◌, ℤ, pos, ◌+ℤ◌, length};
 ghost use Rattle.std.specs.Bool.{Decides};
-ghost use Rattle.gb_defs.specs.ColumnType.{ColumnType};
+ghost use Rattle.gb_defs.specs.ColumnType.{ColumnType, Fits};
+ghost use Rattle.gb_defs.specs.Slot.{Num};
 ghost use Rattle.gb_defs.specs.Fold.{wrap};
 ghost use Rattle.gb_cols.specs.DataType.{type_of};
 
@@ -26,6 +29,14 @@ pub trait PolarsNumericType {
     /// The sum, modulo 2 to the type's width.
     fn wrapping_add(a: Self::Native, b: Self::Native) -> Self::Native
         ensures { number result ≡ wrap dtype (number a +ℤ number b) };
+
+    /// Tells that a value fits the column's type. It does nothing when it runs.
+    fn value_fits(value: Self::Native)
+        ensures { Fits dtype (Num (number value)) };
+
+    /// Tells that a slice of values is not too long. It does nothing when it runs.
+    fn values_are_few(values: &[Self::Native])
+        ensures { length values.now < 2 ^ 63 };
 
     // Values are equal where their numbers are.
     ghost eq_by_number: { (a b : Self.Native) → Decides (Self.Native.eq a b) (number a ≡ number b) };
@@ -57,6 +68,10 @@ impl PolarsNumericType for Int64Type {
     fn wrapping_add(a: i64, b: i64) -> i64 {
         a.wrapping_add(b)
     }
+
+    fn value_fits(_value: i64) {}
+
+    fn values_are_few(_values: &[i64]) {}
 }
 
 /// The numbers of 32 bits with no sign.
@@ -86,4 +101,8 @@ impl PolarsNumericType for UInt32Type {
     fn wrapping_add(a: u32, b: u32) -> u32 {
         a.wrapping_add(b)
     }
+
+    fn value_fits(_value: u32) {}
+
+    fn values_are_few(_values: &[u32]) {}
 }

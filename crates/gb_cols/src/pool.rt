@@ -1,8 +1,11 @@
+//! How work is spread over workers.
+
 ghost use Rattle.std.specs.Prelude.{◌≡◌, ◌≤◌, ◌↔◌, IsTrue};
 ghost use Rattle.gb_cols.specs.FitsPool.{FitsPool};
 
 /// How work is spread: over how many workers and partitions, from how many rows on, and in pieces of
-/// how many rows; and the seed of the hashes. No answer depends on any of these.
+/// how many rows; and the seed of the hashes. Which groups an answer has, and of which rows, depends on
+/// none of these; the order of groups that are not to be sorted may.
 #[derive(Clone, Copy, Debug, PartialEq, Eq)]
 pub struct Pool {
     workers: usize,

@@ -1,3 +1,5 @@
+//! The storage of numbers.
+
 ghost use Rattle.std.specs.Prelude.{◌≡◌, ℕ, ◌+◌, ◌++◌, ◌∷◌, ◌<◌, [], length, map, IfOk, OnOk, OnErr};
 ghost use Rattle.gb_defs.specs.Slot.{Slot, Nil, Num, slot_at};
 ghost use Rattle.gb_cols.specs.Array.{number_slot_of};
@@ -17,10 +19,10 @@ pub struct PrimitiveArray<T: PolarsNumericType> {
 }
 
 impl<T: PolarsNumericType> Model for PrimitiveArray<T> {
-    ghost use Rattle.std.specs.Prelude.{List, length};
+    ghost use Rattle.std.specs.Prelude.{List};
     ghost use Rattle.gb_defs.specs.Slot.{Slot, slot_code};
     ghost use Rattle.std.specs.Coded.{coded_list};
-    ghost use Rattle.gb_cols.specs.Array.{primitive_slots, FitsFlags};
+    ghost use Rattle.gb_cols.specs.Array.{primitive_slots, IsPrimitiveArray};
 
     ghost Value = { List Slot };
 
@@ -28,7 +30,7 @@ impl<T: PolarsNumericType> Model for PrimitiveArray<T> {
 
     ghost view = { λ a. primitive_slots T.number a.values.items a.validity.flags.items };
 
-    ghost invariant = { λ a. FitsFlags (length a.validity.flags.items) (length a.values.items) };
+    ghost invariant = { λ a. IsPrimitiveArray T.number T.dtype a.values.items a.validity.flags.items };
 }
 
 impl<T: PolarsNumericType> PrimitiveArray<T> {
@@ -36,10 +38,12 @@ impl<T: PolarsNumericType> PrimitiveArray<T> {
     pub fn from_slice(alloc: Global, values: &[T::Native]) -> Result<Self, AllocError>
         ensures { IfOk result (λ a. a ≡ map (λ n. Num (T.number n)) values.now) }
     {
-        Ok(PrimitiveArray {
-            values: Vec::from_slice(alloc, values)?,
-            validity: Validity::new(alloc),
-        })
+        let mut array: Self = PrimitiveArray::empty(alloc);
+        array.reserve(values.len())?;
+        for value in values {
+            array.push_valid(*value)?;
+        }
+        Ok(array)
     }
 
     /// The number at a place.
@@ -67,11 +71,12 @@ impl<T: PolarsNumericType> PrimitiveArray<T> {
 
     // One number more at the end.
     fn push_valid(&mut self, value: T::Native) -> Result<(), AllocError>
-        ensures ok { OnOk result (self.new ≡ self.old ++ number_slot_of T.number (Some value) ∷ []) }
+        ensures ok { OnOk result (self.new ≡ self.old ++ Num (T.number value) ∷ []) }
         ensures err { OnErr result (self.new ≡ self.old) }
     {
         self.values.reserve(1)?;
         self.validity.push_valid()?;
+        T::value_fits(value);
         self.values.push_reserved(value);
         Ok(())
     }
@@ -94,6 +99,7 @@ impl<T: PolarsNumericType> Array for PrimitiveArray<T> {
     }
 
     fn len(&self) -> usize {
+        T::values_are_few(&self.values);
         self.values.len()
     }
 

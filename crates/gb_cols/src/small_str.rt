@@ -1,3 +1,5 @@
+//! The names of columns.
+
 ghost use Rattle.std.specs.Prelude.{◌≡◌, IfOk};
 
 use crate::error::{PolarsError, PolarsResult};

@@ -1,3 +1,5 @@
+//! The order that a column is known to be in.
+
 /// Whether a column is known to be in order.
 #[derive(Clone, Copy, Debug, PartialEq, Eq)]
 pub enum IsSorted {

@@ -1,3 +1,5 @@
+//! Each public call of the crate once.
+
 use crate::array::Array;
 use crate::chunked::{Int64Chunked, StringChunked, UInt32Chunked};
 use crate::data_type::DataType;
@@ -10,6 +12,7 @@ use crate::pool::Pool;
 use crate::primitive::PrimitiveArray;
 use crate::small_str::PlSmallStr;
 use crate::sorted::IsSorted;
+use crate::standard::StderrSink;
 use crate::utf8::Utf8Array;
 use std::alloc::Global;
 use std::test::Fail;
@@ -176,31 +179,55 @@ fn row_numbers_that_may_be_missing(rt: HostRuntime) -> Result<(), Fail> {
 }
 
 #[test]
-fn errors_are_told(rt: HostRuntime) -> Result<(), Fail> {
+fn a_sink_of_standard_error(rt: HostRuntime) -> Result<(), Fail> {
+    let mut sink = StderrSink::new(rt.stderr());
+    assert_eq!(rt; sink.write(b""), Ok(0));
+    assert_eq!(rt; sink.write(b"told\n"), Ok(5));
+    Ok(())
+}
+
+#[test]
+fn operations_have_words(rt: HostRuntime) -> Result<(), Fail> {
     let alloc = rt.alloc();
-    for (error, told) in [
-        (PolarsError::ComputeError, "compute"),
-        (PolarsError::ShapeMismatch, "shape mismatch"),
-        (PolarsError::TooManyRows(7), "too many rows: 7"),
-        (PolarsError::NoMemory, "no memory"),
+    for (operation, words) in [
+        (Operation::Sum, "sum"),
+        (Operation::Product, "product"),
+        (Operation::Min, "min"),
+        (Operation::Max, "max"),
+        (Operation::Hash, "hash"),
+        (Operation::RowEncoding, "row encoding"),
     ] {
-        assert_eq!(rt; format!(in alloc; "{error}")?.as_str(), told);
+        assert_eq!(rt; format!(in alloc; "{operation}")?.as_str(), words);
     }
     Ok(())
 }
 
 #[test]
-fn errors_have_names(rt: HostRuntime) -> Result<(), Fail> {
+fn errors_have_lines(rt: HostRuntime) -> Result<(), Fail> {
     let alloc = rt.alloc();
-    let error = PolarsError::InvalidOperation(Operation::Sum, name_of(alloc)?);
-    assert_eq!(rt;
-        format!(in alloc; "{error}")?.as_str(),
-        "invalid operation: sum of m"
-    );
-    let error = PolarsError::Duplicate(name_of(alloc)?);
-    assert_eq!(rt;
-        format!(in alloc; "{error}")?.as_str(),
-        "duplicate column: m"
-    );
+    for (error, line) in [
+        (PolarsError::ComputeError, "compute"),
+        (PolarsError::ShapeMismatch, "shape mismatch"),
+        (PolarsError::TooManyRows(7), "too many rows: 7"),
+        (
+            PolarsError::ColumnNotFound(name_of(alloc)?),
+            "column not found: m",
+        ),
+        (
+            PolarsError::InvalidOperation(Operation::RowEncoding, name_of(alloc)?),
+            "invalid operation: row encoding of m",
+        ),
+        (
+            PolarsError::Duplicate(name_of(alloc)?),
+            "duplicate column: m",
+        ),
+        (
+            PolarsError::SchemaMismatch(name_of(alloc)?),
+            "schema mismatch: m",
+        ),
+        (PolarsError::NoMemory, "no memory"),
+    ] {
+        assert_eq!(rt; format!(in alloc; "{error}")?.as_str(), line);
+    }
     Ok(())
 }

@@ -1,3 +1,5 @@
+//! The storage of texts.
+
 ghost use Rattle.std.specs.Prelude.{◌≡◌, ℕ, ◌+◌, ◌++◌, ◌∷◌, ◌<◌, [], length, get_or, IfOk, OnOk, OnErr};
 ghost use Rattle.gb_defs.specs.Slot.{Slot, Nil, Bytes, slot_at};
 ghost use Rattle.gb_cols.specs.Array.{start_of, text_slot};

@@ -1,3 +1,5 @@
+//! Which slots of a storage are null.
+
 ghost use Rattle.std.specs.Prelude.{◌≡◌, ◌++◌, ◌∷◌, [], true, false, not, IfOk, OnOk, OnErr, slice_index_or};
 ghost use Rattle.std.specs.List.{count_by};
 ghost use Rattle.gb_cols.specs.Array.{filled, valid_pushed};
@@ -49,7 +51,8 @@ impl Validity {
 
     /// One slot more that is null, after so many. The first null gives each earlier slot its flag.
     pub(crate) fn push_null(&mut self, count: usize) -> Result<(), AllocError>
-        ensures ok { OnOk result (self.new.flags.items ≡ filled count self.old.flags.items ++ false ∷ []) }
+        ensures ok { OnOk result
+            (self.new.flags.items ≡ filled count self.old.flags.items ++ false ∷ []) }
         ensures err { OnErr result (self.new.flags.items ≡ self.old.flags.items) }
     {
         if self.flags.is_empty() {

@@ -1,19 +1,15 @@
 -- The columns of a frame, one after the other.
-use Rattle.std.proofs.Common.{◌≡◌, ◌≢◌, ℕ, zero, suc, ◌+◌, ◌<◌, Bool, true, false, cond, List, [], ◌∷◌, length, map, get_or, drop, Option, Some, refl, sym, ◌∙◌, ap, arith, eq-eqb, eqb-true}
+use Rattle.std.proofs.Common.{◌≡◌, ℕ, zero, suc, ◌+◌, ◌<◌, Bool, true, false, cond, List, [], ◌∷◌, length, map, get_or, drop, Option, Some, refl, sym, ◌∙◌, ap, arith, eq-eqb, eqb-true}
 use Rattle.std.specs.Prelude.{slice_get, ◌==◌}
 use Rattle.std.specs.Str.{bytes_eq}
-use Rattle.std.proofs.lemmas.Bool.{ne_eqb}
 use Rattle.std.proofs.lemmas.List.{drop_more, length-map}
 use Rattle.gb_defs.specs.Column.{ColumnValue, Frame, IsFrame, all_have_length, find_column, first_repeated, frame_height, names_of}
 use Rattle.gb_defs.specs.Column.{taken}
 
 -- ---- lengths
 
-pub long_yes : (n : ℕ) (c : ColumnValue) (cs : Frame) → length c.slots ≡ n → all_have_length n (c ∷ cs) ≡ all_have_length n cs
+long_yes : (n : ℕ) (c : ColumnValue) (cs : Frame) → length c.slots ≡ n → all_have_length n (c ∷ cs) ≡ all_have_length n cs
 long_yes n c cs e = ap (λ b. cond b (all_have_length n cs) false) (eq-eqb (length c.slots) n e)
-
-pub long_no : (n : ℕ) (c : ColumnValue) (cs : Frame) → length c.slots ≢ n → all_have_length n (c ∷ cs) ≡ false
-long_no n c cs ne = ap (λ b. cond b (all_have_length n cs) false) (ne_eqb (length c.slots) n ne)
 
 long_first : (test rest : Bool) → cond test rest false ≡ true → (test ≡ true) × (rest ≡ true)
 long_first true rest e = (refl, e)
@@ -28,9 +24,6 @@ long_at n (c ∷ cs) (suc i) d e lt = long_at n cs i d (long_first (length c.slo
 
 pub find_here : (c : ColumnValue) (cs : Frame) (name : List ℕ) → bytes_eq c.name name ≡ true → find_column (c ∷ cs) name ≡ Some c
 find_here c cs name e = ap (λ b. cond b (Some c) (find_column cs name)) e
-
-pub find_later : (c : ColumnValue) (cs : Frame) (name : List ℕ) → bytes_eq c.name name ≡ false → find_column (c ∷ cs) name ≡ find_column cs name
-find_later c cs name e = ap (λ b. cond b (Some c) (find_column cs name)) e
 
 found_step : (n : ℕ) (test : Bool) (x c : ColumnValue) (rest : Option ColumnValue) → length x.slots ≡ n → (rest ≡ Some c → length c.slots ≡ n) → cond test (Some x) rest ≡ Some c → length c.slots ≡ n
 found_step n true x c rest e later found =
@@ -59,7 +52,7 @@ module _ {S : Type 0} (value : S → ColumnValue) where
 
 -- ---- the same rows of each column
 
-pub taken_names : (rows : List ℕ) (frame : Frame) → names_of (map (taken rows) frame) ≡ names_of frame
+taken_names : (rows : List ℕ) (frame : Frame) → names_of (map (taken rows) frame) ≡ names_of frame
 taken_names rows [] = refl
 taken_names rows (c ∷ cs) = ap (λ names. c.name ∷ names) (taken_names rows cs)
 

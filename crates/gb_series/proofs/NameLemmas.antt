@@ -1,5 +1,5 @@
 -- The first name that stood before, by a set of the names so far.
-use Rattle.std.proofs.Common.{◌≡◌, ℕ, Bool, true, false, cond, ◌||◌, inl, inr, List, [], ◌∷◌, Some, None, refl, sym, ◌∙◌, ap, Bor}
+use Rattle.std.proofs.Common.{◌≡◌, ℕ, Bool, true, false, cond, ◌||◌, inl, inr, List, ◌∷◌, Some, sym, ◌∙◌, ap, Bor}
 use Rattle.std.specs.Str.{bytes_eq}
 use Rattle.std.specs.List.{list_any}
 use Rattle.std.specs.Cmp.{both_ways}
@@ -16,9 +16,6 @@ pub record HasSeen (all rest : List (List ℕ)) (keys : List (Bor (List ℕ))) :
   pub names : List (List ℕ)
   pub same : first_repeated all ≡ repeated_after names rest
   pub has : (name : List ℕ) → holds keys name ≡ list_any (bytes_eq name) names
-
-pub seen_none : (all : List (List ℕ)) (keys : List (Bor (List ℕ))) → keys ≡ [] → HasSeen all all keys
-seen_none all keys e = record { names = []; same = refl; has = λ name. ap (λ ks. holds ks name) e }
 
 bytes_eq_symm : (xs ys : List ℕ) → bytes_eq xs ys ≡ bytes_eq ys xs
 bytes_eq_symm xs ys =
@@ -40,6 +37,3 @@ module _ {all rest : List (List ℕ)} {keys : List (Bor (List ℕ))} (name : Lis
     same = s.same ∙ ap (λ b. cond b (Some name) (repeated_after (name ∷ s.names) rest)) (sym (s.has name) ∙ e);
     has = λ other. added new other (update (record { ref_ptr = (0, 0); now = other }));
   }
-
-pub seen_all : {all : List (List ℕ)} {keys : List (Bor (List ℕ))} → HasSeen all [] keys → None ≡ first_repeated all
-seen_all s = sym s.same

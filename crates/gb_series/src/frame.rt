@@ -1,3 +1,5 @@
+//! Frames of columns.
+
 mod columns;
 
 ghost use Rattle.std.specs.Prelude.{◌≡◌, ◌==◌, ℕ, ◌<◌, ◌^◌, length, map, None, Some, IfOk, IfErr, IfSome, IfNone, All, slice_get};
@@ -38,7 +40,8 @@ impl DataFrame {
 
     /// The frame of these columns, unless two have one name or their lengths differ.
     pub fn new(columns: Vec<Column>) -> PolarsResult<DataFrame>
-        ensures ok { IfOk result (λ f. (f ≡ map value_of columns.items) × (frame_fault (map value_of columns.items) ≡ None)) }
+        ensures ok { let frame = map value_of columns.items in
+            IfOk result (λ f. (f ≡ frame) × (frame_fault frame ≡ None)) }
         ensures err { IfErr result (λ e. Explains e (frame_fault (map value_of columns.items))) }
     {
         if let Some(name) = columns::repeated_name(&columns)? {
@@ -82,7 +85,9 @@ impl DataFrame {
 
     /// Where the column of this name stands.
     pub fn position(&self, name: &str) -> Option<usize>
-        ensures some { IfSome result (λ place. slice_get self.now place ≡ find_column self.now name.now) }
+        ensures within { IfSome result (λ place. place < length self.now) }
+        ensures some { IfSome result
+            (λ place. slice_get self.now place ≡ find_column self.now name.now) }
         ensures none { IfNone result (find_column self.now name.now ≡ None) }
     {
         columns::position_of(&self.columns, name)
@@ -90,7 +95,8 @@ impl DataFrame {
 
     /// The column of this name.
     pub fn column(&self, name: &str) -> PolarsResult<&Column>
-        ensures ok { IfOk result (λ column. find_column self.now name.now ≡ Some (value_of column.now)) }
+        ensures ok { IfOk result
+            (λ column. find_column self.now name.now ≡ Some (value_of column.now)) }
         ensures err { IfErr result (λ e. Explains e (missing_column self.now name.now)) }
     {
         match columns::position_of(&self.columns, name) {

@@ -1,7 +1,10 @@
-ghost use Rattle.std.specs.Prelude.{◌≡◌, ◌==◌, ℕ, ◌<◌, ◌^◌, length, IfOk, IfErr, All};
+//! A column of any type.
+
+ghost use Rattle.std.specs.Prelude.{◌≡◌, ◌==◌, ℕ, ◌<◌, ◌^◌, length, sum, IfOk, IfErr, All};
 ghost use Rattle.std.specs.List.{count_by};
 ghost use Rattle.gb_defs.specs.Slot.{is_nil};
 ghost use Rattle.gb_defs.specs.Column.{ColumnValue};
+ghost use Rattle.gb_defs.specs.ColumnType.{Fits};
 ghost use Rattle.gb_cols.specs.PlSmallStr.{name_of, IsNoMemory};
 ghost use Rattle.gb_cols.specs.DataType.{type_of};
 
@@ -56,9 +59,12 @@ impl Series {
         }
     }
 
+    /// One pass over the chunks. It also tells what holds of each column's slots and chunks.
     pub fn len(&self) -> usize
         ensures value { result ≡ length (value_of self.now).slots }
         ensures small { result < 2 ^ 63 }
+        ensures chunks { sum (value_of self.now).chunks ≡ length (value_of self.now).slots }
+        ensures fitting { All (Fits (value_of self.now).dtype) (value_of self.now).slots }
     {
         match self {
             Series::UInt32(column) => column.len(),
@@ -73,6 +79,7 @@ impl Series {
         self.len() == 0
     }
 
+    /// One pass over the chunks.
     pub fn null_count(&self) -> usize
         ensures { result ≡ count_by is_nil (value_of self.now).slots }
     {

@@ -1,4 +1,4 @@
-ghost use Rattle.std.specs.Prelude.{◌<◌, length};
+//! Each public call of the crate once.
 
 use crate::frame::DataFrame;
 use crate::series::{IntoSeries, Series};
@@ -9,16 +9,12 @@ use gb_cols::small_str::PlSmallStr;
 use std::alloc::Global;
 use std::test::Fail;
 
-fn numbers(alloc: Global, name: &str, values: &[i64]) -> PolarsResult<Series>
-    requires { length values.now < 9 }
-{
+fn numbers(alloc: Global, name: &str, values: &[i64]) -> PolarsResult<Series> {
     let name = PlSmallStr::from_str(alloc, name)?;
     Ok(Int64Chunked::from_slice(alloc, name, values)?.into_series())
 }
 
-fn two_columns(alloc: Global, name: &str, values: &[i64]) -> PolarsResult<Vec<Series>>
-    requires { length values.now < 9 }
-{
+fn two_columns(alloc: Global, name: &str, values: &[i64]) -> PolarsResult<Vec<Series>> {
     let mut columns = Vec::new(alloc);
     columns.push(numbers(alloc, "a", &[1, 2])?)?;
     columns.push(numbers(alloc, name, values)?)?;

@@ -1,3 +1,5 @@
+//! Columns of numbers.
+
 ghost use Rattle.std.specs.Prelude.{◌≡◌, ℕ, ◌+◌, ◌<◌, ◌^◌, length, map, IfOk, IfErr, OnOk, OnErr};
 ghost use Rattle.gb_defs.specs.Slot.{Num, slot_at};
 ghost use Rattle.gb_defs.specs.Column.{fresh_column};
@@ -17,8 +19,8 @@ use std::alloc::Global;
 impl<T: PolarsNumericType> ChunkedArray<PrimitiveArray<T>> {
     /// These numbers in one chunk, none of them null.
     pub fn from_slice(alloc: Global, name: PlSmallStr, v: &[T::Native]) -> PolarsResult<Self>
-        requires { length v.now < 2 ^ 63 }
-        ensures ok { IfOk result (λ c. c ≡ fresh_column (name_of name) T.dtype (map (λ n. Num (T.number n)) v.now)) }
+        ensures ok { let slots = map (λ n. Num (T.number n)) v.now in
+            IfOk result (λ c. c ≡ fresh_column (name_of name) T.dtype slots) }
         ensures err { IfErr result IsNoMemory }
     {
         let chunk = PrimitiveArray::from_slice(alloc, v)?;
@@ -31,8 +33,8 @@ impl<T: PolarsNumericType> ChunkedArray<PrimitiveArray<T>> {
         name: PlSmallStr,
         v: &[Option<T::Native>],
     ) -> PolarsResult<Self>
-        requires { length v.now < 2 ^ 63 }
-        ensures ok { IfOk result (λ c. c ≡ fresh_column (name_of name) T.dtype (map (number_slot_of T.number) v.now)) }
+        ensures ok { let slots = map (number_slot_of T.number) v.now in
+            IfOk result (λ c. c ≡ fresh_column (name_of name) T.dtype slots) }
         ensures err { IfErr result IsNoMemory }
     {
         let mut chunk: PrimitiveArray<T> = PrimitiveArray::empty(alloc);

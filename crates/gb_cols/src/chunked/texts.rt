@@ -1,3 +1,5 @@
+//! Columns of texts.
+
 ghost use Rattle.std.specs.Prelude.{◌≡◌, ℕ, ◌+◌, ◌<◌, ◌^◌, length, IfErr, OnOk, OnErr};
 ghost use Rattle.gb_defs.specs.Slot.{slot_at};
 ghost use Rattle.gb_cols.specs.Array.{text_slot};

@@ -1,3 +1,5 @@
+//! What a frame asks of its columns: their lengths, their names, and where a name stands.
+
 ghost use Rattle.std.specs.Prelude.{◌≡◌, ℕ, ◌<◌, ◌^◌, length, map, None, Some, IfOk, IfErr, IfSome, IfNone, option_map, slice_get};
 ghost use Rattle.gb_defs.specs.Column.{all_have_length as are_all_long, find_column, first_repeated, frame_height, names_of};
 ghost use Rattle.gb_cols.specs.PlSmallStr.{name_of, IsNoMemory};
@@ -32,7 +34,8 @@ pub(super) fn all_have_length(columns: &[Series], height: usize) -> bool
 
 /// The first name that stood before.
 pub(super) fn repeated_name(columns: &Vec<Series>) -> PolarsResult<Option<&PlSmallStr>>
-    ensures ok { IfOk result (λ name. option_map (λ n. name_of n.now) name ≡ first_repeated (names_of (map value_of columns.now.items))) }
+    ensures ok { let names = names_of (map value_of columns.now.items) in
+        IfOk result (λ name. option_map (λ n. name_of n.now) name ≡ first_repeated names) }
     ensures err { IfErr result IsNoMemory }
 {
     let mut seen: HashSet<&str> = HashSet::new(*columns.allocator());
@@ -47,7 +50,8 @@ pub(super) fn repeated_name(columns: &Vec<Series>) -> PolarsResult<Option<&PlSma
 /// Where the first column of this name stands.
 pub(super) fn position_of(columns: &[Series], name: &str) -> Option<usize>
     ensures within { IfSome result (λ place. place < length columns.now) }
-    ensures some { IfSome result (λ place. slice_get (map value_of columns.now) place ≡ find_column (map value_of columns.now) name.now) }
+    ensures some { let frame = map value_of columns.now in
+        IfSome result (λ place. slice_get frame place ≡ find_column frame name.now) }
     ensures none { IfNone result (find_column (map value_of columns.now) name.now ≡ None) }
 {
     for (place, column) in columns.iter().enumerate() {

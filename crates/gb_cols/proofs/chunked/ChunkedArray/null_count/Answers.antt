@@ -11,7 +11,7 @@ overflow_add-total g c =
     let whole = ap (λ es. length (all_slots slots es c.self.inside.last)) c.deref-chunk-items.ensures.value in
     let more = nulls_more slots chunks c.chunk-item.result c.loop-chunk.chunk-index c.loop-chunk-test.true c.chunk-item.is in
     let few = nulls_few slots chunks c.self.inside.last (c.loop-chunk.chunk-index + 1) in
-    omega (arith, c.self.invariant.1, whole, more, few, c.null_count-total.ensures, c.loop-chunk.invariant)
+    omega (arith, c.self.invariant.small, whole, more, few, c.null_count-total.ensures, c.loop-chunk.invariant)
 
 pub loop-chunk-preserved : goal.loop-chunk-preserved
 loop-chunk-preserved g c =
@@ -22,7 +22,7 @@ pub overflow_add-result : goal.overflow_add-result
 overflow_add-result g c =
     let slots = g.A.Array.slots in
     let whole = ap (λ es. length (all_slots slots es c.self.inside.last)) c.deref-chunk-items.ensures.value in
-    omega (arith, c.self.invariant.1, whole, nulls_few slots c.deref-chunk-items.result.now c.self.inside.last c.loop-chunk.chunk-index, c.null_count.ensures, c.loop-chunk.invariant)
+    omega (arith, c.self.invariant.small, whole, nulls_few slots c.deref-chunk-items.result.now c.self.inside.last c.loop-chunk.chunk-index, c.null_count.ensures, c.loop-chunk.invariant)
 
 pub returns : goal.returns
 returns g c =

@@ -1,4 +1,4 @@
-use Rattle.std.proofs.Common.{◌∙◌, ap, sym, map, take, ◌++◌, ◌∷◌, []}
+use Rattle.std.proofs.Common.{◌∙◌, ap, sym, map, take, ◌++◌, ◌∷◌, [], length, ◌<◌, ◌^◌, rules}
 use Rattle.std.proofs.lemmas.List.{map_more, take_all, length-map, append-nil}
 use Rattle.gb_defs.specs.Slot.{Slot, slot_at}
 use Rattle.gb_cols.proofs.ChunkedLemmas.{view_one}
@@ -15,8 +15,9 @@ loop-row-preserved g c =
 pub invariant_of-result : goal.invariant_of-result
 invariant_of-result g c =
     let whole = c.loop-row.invariant ∙ ap (map (slot_at c.args.self.now.slots)) (take_all c.loop-row.row-index c.args.rows.now c.loop-row-test.false) in
-    let few = c.requires.few in
-    rw (c.new.ensures.items, append-nil (g.A.Array.slots c.loop-row.taken), whole, length-map c.args.rows.now (slot_at c.args.self.now.slots)) (tt, few)
+    let few : length c.args.rows.now < 2 ^ 63 = search rules in
+    rw (c.new.ensures.items, append-nil (g.A.Array.slots c.loop-row.taken), whole)
+    (record { flag_true = tt; small = rw (length-map c.args.rows.now (slot_at c.args.self.now.slots)) few })
 
 pub returns-clause-ok : goal.returns-clause-ok
 returns-clause-ok g c =
