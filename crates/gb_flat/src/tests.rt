@@ -1,3 +1,5 @@
+//! Buffers laid one after another by one worker and by several.
+
 use crate::flatten::flatten_par;
 use crate::nullable::flatten_nullable;
 use crate::offsets::{cap_and_offsets, split_offsets};
