@@ -76,7 +76,8 @@ fn fill_both<T: Copy + Send + Sync, R: Threads + Sync>(
             ensures { front.exit.now ≡ joined mine.entry.now }
         { fill(mine, front) },
         &mut ||
-            requires { DealsOut later.now (length others.now) × (starts.now ≡ starts_of next others.now)
+            requires { DealsOut later.now (length others.now)
+                × (starts.now ≡ starts_of next others.now)
                 × (length back.now ≡ item_count others.now) }
             ensures { back.exit.now ≡ joined others.entry.now }
         { fill_shares(rt, later, next, starts, others, back) },

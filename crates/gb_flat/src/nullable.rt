@@ -1,6 +1,6 @@
 //! Row numbers of several buffers in one column.
 
-ghost use Rattle.std.specs.Prelude.{◌≡◌, ◌<◌, ◌^◌, length, IfOk, IfErr};
+ghost use Rattle.std.specs.Prelude.{◌≡◌, IfOk, IfErr};
 ghost use Rattle.gb_cols.specs.PlSmallStr.{IsNoMemory};
 ghost use Rattle.gb_flat.specs.Buffers.{joined};
 ghost use Rattle.gb_flat.specs.Nullable.{rows_column};
@@ -30,7 +30,6 @@ pub fn flatten_nullable<R: Threads + Sync>(
 
 // These row numbers in one chunk.
 fn column_of(alloc: Global, rows: &[NullableIdxSize]) -> PolarsResult<IdxCa>
-    requires { length rows.now < 2 ^ 63 }
     ensures ok { IfOk result (λ c. c ≡ rows_column rows.now) }
     ensures err { IfErr result IsNoMemory }
 {

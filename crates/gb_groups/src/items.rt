@@ -30,8 +30,8 @@ pub(crate) fn take_items(
     all: &mut Vec<IdxVec>,
 ) -> Result<Vec<IdxItem>, AllocError>
     requires { length first.old.items ≡ length all.old.items }
-    ensures ok { IfOk result (λ items. pairs_of items.items ≡ paired first.old.items all.old.items) }
-    ensures count { IfOk result (λ items. length items.items ≡ length first.old.items) }
+    ensures ok { IfOk result (λ made. pairs_of made.items ≡ paired first.old.items all.old.items) }
+    ensures count { IfOk result (λ made. length made.items ≡ length first.old.items) }
     ensures first_empty { OnOk result (first.new.items ≡ []) }
     ensures all_empty { OnOk result (all.new.items ≡ []) }
     ensures first_capacity { vec_capacity first.new ≡ vec_capacity first.old }
