@@ -10,8 +10,8 @@ use gb_cols::error::{PolarsError, PolarsResult};
 use std::alloc::{AllocError, Global};
 use std::thread::{self, Threads};
 
-/// What `part` gives for each range of `split_offsets`, in order, each range in a thread of its own. A
-/// range is its start and its length. All ranges are worked on even where an early one lacks memory.
+/// What `part` gives for each range of `split_offsets`, in order, each range in a thread of its own where
+/// one can be made. A range is its start and its length.
 pub fn map_shares<
     T: Threads + Sync,
     X: Send + Drop,
