@@ -1,1 +1,3 @@
+pub mod Buffers
+pub mod Nullable
 pub mod Shares

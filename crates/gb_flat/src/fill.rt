@@ -1,17 +1,15 @@
 //! Buffers copied one after another into a slice.
 
-ghost use Rattle.std.specs.Prelude.{◌≡◌, length, map};
-ghost use Rattle.std.specs.List.{flat_map, sum_by};
-ghost use Rattle.std.specs.Thread.{IsSync, IsSend};
-ghost use Rattle.gb_defs.specs.Flat.{starts_from};
+ghost use Rattle.std.specs.Prelude.{◌≡◌, length};
+ghost use Rattle.gb_flat.specs.Buffers.{item_count, joined, starts_of};
 ghost use Rattle.gb_flat.specs.Shares.{DealsOut};
 
 use std::thread::{Threads, join_mut};
 
 /// Copies the buffers one after another into the slice, which they fill.
 pub(crate) fn fill<T: Copy>(bufs: &[Vec<T>], room: &mut [T])
-    requires { length room.old ≡ sum_by (λ buf. length buf.items) bufs.now }
-    ensures { room.new ≡ flat_map (λ buf. buf.items) bufs.now }
+    requires { length room.old ≡ item_count bufs.now }
+    ensures { room.new ≡ joined bufs.now }
 {
     let mut at = 0;
     for buf in bufs {
@@ -32,11 +30,10 @@ pub(crate) fn fill_shares<T: Copy + Send + Sync, R: Threads + Sync>(
     bufs: &[Vec<T>],
     room: &mut [T],
 )
-    requires row_type { IsSync R.row }
     requires dealt { DealsOut shares.now (length bufs.now) }
-    requires starts { starts.now ≡ starts_from base (map (λ buf. length buf.items) bufs.now) }
-    requires room { length room.old ≡ sum_by (λ buf. length buf.items) bufs.now }
-    ensures { room.new ≡ flat_map (λ buf. buf.items) bufs.now }
+    requires starts { starts.now ≡ starts_of base bufs.now }
+    requires room { length room.old ≡ item_count bufs.now }
+    ensures { room.new ≡ joined bufs.now }
 {
     let Some((share, later)) = shares.split_first() else {
         fill(bufs, room);
@@ -65,23 +62,24 @@ fn fill_both<T: Copy + Send + Sync, R: Threads + Sync>(
     others: &[Vec<T>],
     back: &mut [T],
 )
-    requires row_type { IsSync R.row }
-    requires front { length front.old ≡ sum_by (λ buf. length buf.items) mine.now }
+    requires front { length front.old ≡ item_count mine.now }
     requires dealt { DealsOut later.now (length others.now) }
-    requires starts { starts.now ≡ starts_from next (map (λ buf. length buf.items) others.now) }
-    requires back { length back.old ≡ sum_by (λ buf. length buf.items) others.now }
-    ensures front { front.new ≡ flat_map (λ buf. buf.items) mine.now }
-    ensures back { back.new ≡ flat_map (λ buf. buf.items) others.now }
+    requires starts { starts.now ≡ starts_of next others.now }
+    requires back { length back.old ≡ item_count others.now }
+    ensures front { front.new ≡ joined mine.now }
+    ensures back { back.new ≡ joined others.now }
 {
     join_mut(
         rt,
         &mut ||
-            requires { length front.now ≡ sum_by (λ buf. length buf.items) mine.now }
-            ensures { front.exit.now ≡ flat_map (λ buf. buf.items) mine.entry.now }
+            requires { length front.now ≡ item_count mine.now }
+            ensures { front.exit.now ≡ joined mine.entry.now }
         { fill(mine, front) },
         &mut ||
-            requires { IsSync R.row × IsSync T.row × IsSend T.row × DealsOut later.now (length others.now) × (starts.now ≡ starts_from next (map (λ buf. length buf.items) others.now)) × (length back.now ≡ sum_by (λ buf. length buf.items) others.now) }
-            ensures { back.exit.now ≡ flat_map (λ buf. buf.items) others.entry.now }
+            requires { DealsOut later.now (length others.now)
+                × (starts.now ≡ starts_of next others.now)
+                × (length back.now ≡ item_count others.now) }
+            ensures { back.exit.now ≡ joined others.entry.now }
         { fill_shares(rt, later, next, starts, others, back) },
     );
 }

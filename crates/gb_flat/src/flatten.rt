@@ -1,9 +1,8 @@
 //! The items of several buffers in one vector.
 
 ghost use Rattle.std.specs.Prelude.{◌≡◌, [], IfOk, IfErr, IfNone};
-ghost use Rattle.std.specs.List.{flat_map, sum_by};
-ghost use Rattle.std.specs.Thread.{IsSync};
 ghost use Rattle.gb_cols.specs.PlSmallStr.{IsNoMemory};
+ghost use Rattle.gb_flat.specs.Buffers.{joined};
 
 use crate::fill::fill_shares;
 use crate::offsets::{cap_and_offsets, split_offsets};
@@ -19,8 +18,7 @@ pub fn flatten_par<T: Copy + Send + Sync, R: Threads + Sync>(
     bufs: &[Vec<T>],
     pool: &Pool,
 ) -> PolarsResult<Vec<T>>
-    requires row_type { IsSync R.row }
-    ensures ok { IfOk result (λ v. v.items ≡ flat_map (λ b. b.items) bufs.now) }
+    ensures ok { IfOk result (λ v. v.items ≡ joined bufs.now) }
     ensures err { IfErr result IsNoMemory }
 {
     let (total, starts) = cap_and_offsets(alloc, bufs)?;
@@ -39,7 +37,7 @@ pub fn flatten_par<T: Copy + Send + Sync, R: Threads + Sync>(
 
 // The same by one worker, in a vector with room for so many.
 fn flatten<T: Copy>(alloc: Global, bufs: &[Vec<T>], total: usize) -> PolarsResult<Vec<T>>
-    ensures ok { IfOk result (λ v. v.items ≡ flat_map (λ b. b.items) bufs.now) }
+    ensures ok { IfOk result (λ v. v.items ≡ joined bufs.now) }
     ensures err { IfErr result IsNoMemory }
 {
     let mut flat = Vec::with_capacity(alloc, total)?;
@@ -51,7 +49,7 @@ fn flatten<T: Copy>(alloc: Global, bufs: &[Vec<T>], total: usize) -> PolarsResul
 
 // The first item of the first buffer that has one.
 fn first_item<T: Copy>(bufs: &[Vec<T>]) -> Option<T>
-    ensures { IfNone result (flat_map (λ b. b.items) bufs.now ≡ []) }
+    ensures { IfNone result (joined bufs.now ≡ []) }
 {
     for buf in bufs {
         if let Some(item) = buf.first() {

@@ -1,9 +1,11 @@
-//! Buffers that are laid one after another: where each begins, and their items in one vector.
+//! Buffers that are laid one after another: where each begins, and their items in one vector. Work that
+//! is dealt out by ranges.
 #![tactic(auto)]
 
 mod fill;
 pub mod flatten;
 pub mod nullable;
 pub mod offsets;
+pub mod shares;
 #[cfg(test)]
 mod tests;

@@ -1,12 +1,9 @@
 //! Row numbers of several buffers in one column.
 
-ghost use Rattle.std.specs.Prelude.{◌≡◌, ◌<◌, ◌^◌, [], length, map, pos, IfOk, IfErr};
-ghost use Rattle.std.specs.List.{flat_map};
-ghost use Rattle.std.specs.Thread.{IsSync};
-ghost use Rattle.gb_defs.specs.Column.{fresh_column};
-ghost use Rattle.gb_defs.specs.ColumnType.{uint32};
-ghost use Rattle.gb_cols.specs.Array.{number_slot_of};
+ghost use Rattle.std.specs.Prelude.{◌≡◌, IfOk, IfErr};
 ghost use Rattle.gb_cols.specs.PlSmallStr.{IsNoMemory};
+ghost use Rattle.gb_flat.specs.Buffers.{joined};
+ghost use Rattle.gb_flat.specs.Nullable.{rows_column};
 
 use crate::flatten::flatten_par;
 use gb_cols::chunked::IdxCa;
@@ -24,8 +21,7 @@ pub fn flatten_nullable<R: Threads + Sync>(
     bufs: &[Vec<NullableIdxSize>],
     pool: &Pool,
 ) -> PolarsResult<IdxCa>
-    requires row_type { IsSync R.row }
-    ensures ok { IfOk result (λ c. c ≡ fresh_column [] uint32 (map (number_slot_of (λ n. pos n)) (flat_map (λ b. b.items) bufs.now))) }
+    ensures ok { IfOk result (λ c. c ≡ rows_column (joined bufs.now)) }
     ensures err { IfErr result IsNoMemory }
 {
     let rows = flatten_par(rt, alloc, bufs, pool)?;
@@ -34,8 +30,7 @@ pub fn flatten_nullable<R: Threads + Sync>(
 
 // These row numbers in one chunk.
 fn column_of(alloc: Global, rows: &[NullableIdxSize]) -> PolarsResult<IdxCa>
-    requires { length rows.now < 2 ^ 63 }
-    ensures ok { IfOk result (λ c. c ≡ fresh_column [] uint32 (map (number_slot_of (λ n. pos n)) rows.now)) }
+    ensures ok { IfOk result (λ c. c ≡ rows_column rows.now) }
     ensures err { IfErr result IsNoMemory }
 {
     let mut column = IdxCa::new(alloc, PlSmallStr::from_str(alloc, "")?);

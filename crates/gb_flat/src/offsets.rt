@@ -1,9 +1,9 @@
 //! Where each of several buffers begins, and how a length is dealt out.
 
-ghost use Rattle.std.specs.Prelude.{◌≡◌, ◌≤◌, length, map, IfOk, IfErr};
-ghost use Rattle.std.specs.List.{sum_by};
-ghost use Rattle.gb_defs.specs.Flat.{ranges_of, starts_from};
+ghost use Rattle.std.specs.Prelude.{◌≡◌, ◌≤◌, IfOk, IfErr};
+ghost use Rattle.gb_defs.specs.Flat.{ranges_of};
 ghost use Rattle.gb_cols.specs.PlSmallStr.{IsNoMemory};
+ghost use Rattle.gb_flat.specs.Buffers.{item_count, starts_of};
 
 use gb_cols::error::{PolarsError, PolarsResult};
 use std::alloc::Global;
@@ -27,8 +27,8 @@ pub fn split_offsets(alloc: Global, len: usize, n: usize) -> PolarsResult<Vec<(u
 /// How long the buffers are together, and where each begins. A total that a `usize` does not hold is
 /// more than memory holds.
 pub fn cap_and_offsets<I>(alloc: Global, v: &[Vec<I>]) -> PolarsResult<(usize, Vec<usize>)>
-    ensures total { IfOk result (λ r. r.0 ≡ sum_by (λ list. length list.items) v.now) }
-    ensures starts { IfOk result (λ r. r.1.items ≡ starts_from 0 (map (λ list. length list.items) v.now)) }
+    ensures total { IfOk result (λ r. r.0 ≡ item_count v.now) }
+    ensures starts { IfOk result (λ r. r.1.items ≡ starts_of 0 v.now) }
     ensures err { IfErr result IsNoMemory }
 {
     let mut total = 0usize;

@@ -1,6 +1,13 @@
+//! Buffers laid one after another, and ranges worked on, by one worker and by several.
+
+ghost use Rattle.std.specs.Prelude.{◌+◌, ◌≤◌, IfErr};
+ghost use Rattle.gb_cols.specs.PlSmallStr.{IsNoMemory};
+
 use crate::flatten::flatten_par;
 use crate::nullable::flatten_nullable;
 use crate::offsets::{cap_and_offsets, split_offsets};
+use crate::shares::{join_shares, map_shares};
+use gb_cols::error::PolarsResult;
 use gb_cols::nullable_idx::NullableIdxSize;
 use gb_cols::pool::Pool;
 use std::alloc::{AllocError, Global};
@@ -65,6 +72,40 @@ fn missing_rows_are_null(rt: HostRuntime) -> Result<(), Fail> {
     assert_eq!(rt; column.len(), rows.len());
     for (place, row) in rows.iter().enumerate() {
         assert_eq!(rt; column.get(place), *row);
+    }
+    Ok(())
+}
+
+// The numbers of a range.
+fn numbers(alloc: Global, share: (usize, usize)) -> PolarsResult<Vec<usize>>
+    requires { share.0 + share.1 ≤ 10 }
+    ensures { IfErr result IsNoMemory }
+{
+    let (start, count) = share;
+    let mut numbers = Vec::new(alloc);
+    for number in start..start + count {
+        numbers.push(number)?;
+    }
+    Ok(numbers)
+}
+
+#[test]
+fn shares_are_joined_in_order(rt: HostRuntime) -> Result<(), Fail> {
+    let alloc = rt.alloc();
+    for workers in [1, 3, 12] {
+        let made = map_shares(
+            &rt,
+            alloc,
+            10,
+            workers,
+            &|share: (usize, usize)|
+                requires { share.0 + share.1 ≤ 10 }
+                ensures { IfErr result IsNoMemory }
+            { numbers(alloc, share) },
+        )?;
+        assert_eq!(rt; made.len(), workers);
+        let all = join_shares(alloc, made)?;
+        assert_eq!(rt; all.as_slice(), [0, 1, 2, 3, 4, 5, 6, 7, 8, 9].as_slice());
     }
     Ok(())
 }

@@ -4,7 +4,8 @@ use Rattle.std.proofs.lemmas.Bool.{cond-true, cond-false, cases_Bool}
 use Rattle.std.proofs.lemmas.Bool.Decides.{nat_tests}
 use Rattle.std.proofs.lemmas.List.Sorted.{IsNonDecreasingBy-from_sort}
 use Rattle.std.specs.List.Sorted.{IsNonDecreasingBy}
-use Rattle.gb_groups.specs.Order.{first_of, IsByFirst}
+use Rattle.gb_defs.specs.Groups.{first_of}
+use Rattle.gb_groups.specs.Order.{OrderIsOne}
 
 abbrev tied : ℕ → ℕ → Bool
 tied a b = not (is_lt (nat_cmp a b)) && not (is_lt (nat_cmp b a))
@@ -56,6 +57,6 @@ module _ {X : Type 0} (n : X → ℕ) where
       ap (λ a. a ∷ ys) head ∙ ap (λ l. z ∷ l) (once ys zs (λ i j d le lt. up-ys (suc i) (suc j) d (omega (arith, le)) (omega (arith, lt))) (λ i j d le lt. up-zs (suc i) (suc j) d (omega (arith, le)) (omega (arith, lt))) tails)
 
 -- only one list is `before` by its first rows
-pub by_first_once : (before ys zs : List (ℕ × List ℕ)) → IsByFirst before ys → IsByFirst before zs → ys ≡ zs
+pub by_first_once : OrderIsOne
 by_first_once before ys zs one other =
     once first_of ys zs (IsNonDecreasingBy-from_sort first_of ys one.sorted) (IsNonDecreasingBy-from_sort first_of zs other.sorted) (λ pair. one.stable pair ∙ sym (other.stable pair))

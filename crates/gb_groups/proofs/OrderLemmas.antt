@@ -7,7 +7,8 @@ use Rattle.std.proofs.lemmas.Slice.Zip.{length-zip, get_or-zip}
 use Rattle.std.specs.List.Sorted.{IsPermutation, IsSortedByKey, IsStableByKey, IsNonDecreasing, ties}
 use Rattle.smallvec.specs.SmallVec.{SmallVec}
 use Rattle.gb_groups.specs.Groups.{owned_pair, pairs_of}
-use Rattle.gb_groups.specs.Order.{first_of, IsByFirst}
+use Rattle.gb_defs.specs.Groups.{first_of}
+use Rattle.gb_groups.specs.Order.{IsByFirst}
 
 abbrev Item : Type 0
 Item = ℕ × SmallVec ℕ

@@ -1,4 +1,4 @@
--- Groups in either form, and what an iterator over them has left.
+-- Groups in the form that they have, as contracts see them.
 use Rattle.gb_defs.specs.Groups.{Grouping}
 use Rattle.gb_groups.specs.declared.groups_type.GroupsType.{GroupsType}
 use Rattle.gb_groups.specs.declared.groups_type.GroupsType.TheVariants.{Idx}

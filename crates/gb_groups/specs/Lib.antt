@@ -2,3 +2,4 @@ pub mod Groups
 pub mod GroupsIndicator
 pub mod GroupsType
 pub mod Order
+pub mod Parts

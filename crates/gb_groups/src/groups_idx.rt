@@ -1,9 +1,10 @@
-ghost use Rattle.std.specs.Prelude.{◌≡◌, ◌<◌, ℕ, List, [], length, IsTrue, ◌↔◌, ◌==◌, true, false, map, zip, slice_index_or, IfOk, IfErr, OnOk, OnErr};
-ghost use Rattle.std.specs.List.{flat_map};
+//! Groups as first rows and row lists, flagged where the first rows are known never to descend.
+
+ghost use Rattle.std.specs.Prelude.{◌≡◌, ◌<◌, [], length, IsTrue, ◌↔◌, ◌==◌, true, false, map, slice_index_or, IfOk, IfErr, OnOk, OnErr};
 ghost use Rattle.std.specs.List.Sorted.{IsNonDecreasing};
-ghost use Rattle.std.specs.Thread.{IsSync};
 ghost use Rattle.gb_cols.specs.PlSmallStr.{IsNoMemory};
-ghost use Rattle.gb_defs.specs.Groups.{Idx};
+ghost use Rattle.gb_defs.specs.Groups.{first_of, idx_groups, lists_in};
+ghost use Rattle.gb_flat.specs.Buffers.{joined};
 
 use crate::items::{push_items, take_items};
 use crate::iter::GroupsIdxIter;
@@ -18,7 +19,7 @@ use std::marker::Model;
 use std::thread::Threads;
 
 /// The rows of a group. One row takes no allocation.
-pub type IdxVec = SmallVec<u32, 1>;
+pub type IdxVec = SmallVec<IdxSize, 1>;
 
 /// A group: its first row and its rows.
 pub type IdxItem = (IdxSize, IdxVec);
@@ -35,25 +36,25 @@ pub struct GroupsIdx {
 }
 
 impl Model for GroupsIdx {
-    ghost use Rattle.std.specs.Prelude.{◌≡◌, length, IsTrue, zip};
+    ghost use Rattle.std.specs.Prelude.{◌≡◌, length, IsTrue};
     ghost use Rattle.std.specs.List.Sorted.{IsNonDecreasing};
-    ghost use Rattle.gb_defs.specs.Groups.{Grouping, Idx};
-    ghost use Rattle.gb_groups.specs.Groups.{lists_of};
+    ghost use Rattle.gb_defs.specs.Groups.{Grouping, idx_groups};
+    ghost use Rattle.gb_groups.specs.Groups.{paired};
 
     ghost Value = { Grouping };
 
-    ghost view = { λ g. record { pairs = zip g.first.items (lists_of g.all.items); form = Idx; flagged = g.sorted } };
+    ghost view = { λ g. idx_groups (paired g.first.items g.all.items) g.sorted };
 
     ghost invariant = { λ g. (length g.first.items ≡ length g.all.items) × (IsTrue g.sorted → IsNonDecreasing g.first.items) };
 }
 
 impl GroupsIdx {
-    ghost use Rattle.gb_groups.specs.Groups.{lists_of, lent_pair, pairs_of};
+    ghost use Rattle.gb_groups.specs.Groups.{lists_of, lent_pair, paired, pairs_of};
     ghost use Rattle.gb_groups.specs.Order.{IsByFirst};
 
     /// No groups, not flagged as sorted.
     pub fn empty(alloc: Global) -> GroupsIdx
-        ensures { result ≡ record { pairs = []; form = Idx; flagged = false } }
+        ensures { result ≡ idx_groups [] false }
     {
         GroupsIdx {
             first: Vec::new(alloc),
@@ -66,14 +67,14 @@ impl GroupsIdx {
     pub fn new(first: Vec<IdxSize>, all: Vec<IdxVec>, sorted: bool) -> GroupsIdx
         requires as_many { length first.items ≡ length all.items }
         requires ascend { IsTrue sorted → IsNonDecreasing first.items }
-        ensures { result ≡ record { pairs = zip first.items (lists_of all.items); form = Idx; flagged = sorted } }
+        ensures { result ≡ idx_groups (paired first.items all.items) sorted }
     {
         GroupsIdx { first, all, sorted }
     }
 
     /// The groups that these items are, in order.
     pub fn from_items(alloc: Global, items: Vec<IdxItem>) -> PolarsResult<GroupsIdx>
-        ensures ok { IfOk result (λ g. g ≡ record { pairs = pairs_of items.items; form = Idx; flagged = false }) }
+        ensures ok { IfOk result (λ g. g ≡ idx_groups (pairs_of items.items) false) }
         ensures err { IfErr result IsNoMemory }
     {
         let mut first = Vec::with_capacity(alloc, items.len())?;
@@ -90,8 +91,7 @@ impl GroupsIdx {
         parts: Vec<Vec<IdxItem>>,
         pool: &Pool,
     ) -> PolarsResult<GroupsIdx>
-        requires row_type { IsSync R.row }
-        ensures ok { IfOk result (λ g. g ≡ record { pairs = pairs_of (flat_map (λ part. part.items) parts.items); form = Idx; flagged = false }) }
+        ensures ok { IfOk result (λ g. g ≡ idx_groups (pairs_of (joined parts.items)) false) }
         ensures err { IfErr result IsNoMemory }
     {
         let (count, starts) = cap_and_offsets(alloc, &parts)?;
@@ -136,14 +136,14 @@ impl GroupsIdx {
 
     /// The first row of each group.
     pub fn first(&self) -> &[IdxSize]
-        ensures { result.now ≡ map (λ (p : ℕ × List ℕ). p.0) self.now.pairs }
+        ensures { result.now ≡ map first_of self.now.pairs }
     {
         self.first.as_slice()
     }
 
     /// The rows of each group.
     pub fn all(&self) -> &[IdxVec]
-        ensures { lists_of result.now ≡ map (λ (p : ℕ × List ℕ). p.1) self.now.pairs }
+        ensures { lists_of result.now ≡ lists_in self.now }
     {
         self.all.as_slice()
     }
@@ -183,9 +183,10 @@ impl GroupsIdx {
         Ok(())
     }
 
-    /// Whether the first rows are known to ascend.
+    /// Whether the groups are flagged as sorted. Unflagged groups may be in order too.
     pub fn is_sorted_flag(&self) -> bool
-        ensures { result ≡ self.now.flagged }
+        ensures flag { result ≡ self.now.flagged }
+        ensures ascend { IsTrue result → IsNonDecreasing (map first_of self.now.pairs) }
     {
         self.sorted
     }
@@ -247,14 +248,12 @@ mod tests {
             parts.push(groups.into_items()?)?;
             parts.push(Vec::new(alloc))?;
             parts.push(items(alloc, &more)?)?;
-            let mut groups = GroupsIdx::from_parts(&rt, alloc, parts, &pool)?;
+            let groups = GroupsIdx::from_parts(&rt, alloc, parts, &pool)?;
             assert!(rt; !groups.is_sorted_flag());
             expect_pairs(&rt, &groups, &joined);
-            groups.sort()?;
-            assert!(rt; groups.is_sorted_flag());
-            expect_pairs(&rt, &groups, &sorted);
             let mut groups = GroupsType::from(groups);
             groups.sort()?;
+            assert!(rt; groups.is_sorted_flag());
             expect_pairs(&rt, groups.unwrap_idx(), &sorted);
         }
         Ok(())

@@ -1,7 +1,11 @@
-ghost use Rattle.std.specs.Prelude.{◌≡◌, ◌<◌, ◌==◌, [], length, slice_index_or, IsTrue, true, IfErr, OnOk, OnErr};
-ghost use Rattle.gb_cols.specs.PlSmallStr.{IsNoMemory};
+//! Groups in the form that the path to them gave.
 
-use crate::groups_idx::{BorrowIdxItem, GroupsIdx};
+ghost use Rattle.std.specs.Prelude.{◌≡◌, ◌<◌, ◌==◌, [], length, map, slice_index_or, IsTrue, true, IfErr, OnOk, OnErr};
+ghost use Rattle.std.specs.List.Sorted.{IsNonDecreasing};
+ghost use Rattle.gb_cols.specs.PlSmallStr.{IsNoMemory};
+ghost use Rattle.gb_defs.specs.Groups.{first_of};
+
+use crate::groups_idx::{BorrowIdxItem, GroupsIdx, IdxSize};
 use crate::iter::GroupsTypeIter;
 use gb_cols::error::PolarsResult;
 
@@ -36,7 +40,7 @@ impl<'a> GroupsIndicator<'a> {
     }
 
     /// The first row of the group.
-    pub fn first(&self) -> u32
+    pub fn first(&self) -> IdxSize
         ensures { result ≡ (pair_of self.now).0 }
     {
         match self {
@@ -75,9 +79,10 @@ impl GroupsType {
         self.len() == 0
     }
 
-    /// Whether the first rows are known to ascend.
+    /// Whether the groups are flagged as sorted. Unflagged groups may be in order too.
     pub fn is_sorted_flag(&self) -> bool
-        ensures { result ≡ (groups_of self.now).flagged }
+        ensures flag { result ≡ (groups_of self.now).flagged }
+        ensures ascend { IsTrue result → IsNonDecreasing (map first_of (groups_of self.now).pairs) }
     {
         match self {
             GroupsType::Idx(groups) => groups.is_sorted_flag(),
@@ -105,10 +110,12 @@ impl GroupsType {
 
     /// Puts the groups in the order of their first rows. Groups of one first row keep their order.
     pub fn sort(&mut self) -> PolarsResult<()>
-        ensures sorted { OnOk result (IsByFirst (groups_of self.old).pairs (groups_of self.new).pairs) }
+        ensures sorted { OnOk result
+            (IsByFirst (groups_of self.old).pairs (groups_of self.new).pairs) }
         ensures flagged { OnOk result ((groups_of self.new).flagged ≡ true) }
         ensures form { (groups_of self.new).form ≡ (groups_of self.old).form }
-        ensures known { IsTrue (groups_of self.old).flagged → groups_of self.new ≡ groups_of self.old }
+        ensures known { IsTrue (groups_of self.old).flagged
+            → groups_of self.new ≡ groups_of self.old }
         ensures unchanged { OnErr result (groups_of self.new ≡ groups_of self.old) }
         ensures err { IfErr result IsNoMemory }
     {

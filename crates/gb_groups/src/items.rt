@@ -1,8 +1,8 @@
 //! Groups as first rows and row lists apart, and as items. Row lists are moved, never copied.
 
-ghost use Rattle.std.specs.Prelude.{◌≡◌, ◌+◌, ◌≤◌, [], ◌++◌, length, map, zip, IfOk, OnOk, OnErr};
+ghost use Rattle.std.specs.Prelude.{◌≡◌, ◌+◌, ◌≤◌, [], ◌++◌, length, map, IfOk, OnOk, OnErr};
 ghost use Rattle.std.specs.Vec.{vec_capacity};
-ghost use Rattle.gb_groups.specs.Groups.{lists_of, pairs_of};
+ghost use Rattle.gb_groups.specs.Groups.{paired, pairs_of};
 
 use crate::groups_idx::{IdxItem, IdxSize, IdxVec};
 use smallvec::SmallVec;
@@ -30,8 +30,8 @@ pub(crate) fn take_items(
     all: &mut Vec<IdxVec>,
 ) -> Result<Vec<IdxItem>, AllocError>
     requires { length first.old.items ≡ length all.old.items }
-    ensures ok { IfOk result (λ items. pairs_of items.items ≡ zip first.old.items (lists_of all.old.items)) }
-    ensures count { IfOk result (λ items. length items.items ≡ length first.old.items) }
+    ensures ok { IfOk result (λ made. pairs_of made.items ≡ paired first.old.items all.old.items) }
+    ensures count { IfOk result (λ made. length made.items ≡ length first.old.items) }
     ensures first_empty { OnOk result (first.new.items ≡ []) }
     ensures all_empty { OnOk result (all.new.items ≡ []) }
     ensures first_capacity { vec_capacity first.new ≡ vec_capacity first.old }

@@ -1,8 +1,8 @@
 //! Iterators over groups, in order.
 
-ghost use Rattle.std.specs.Prelude.{◌≡◌, length, zip};
+ghost use Rattle.std.specs.Prelude.{◌≡◌, length};
 ghost use Rattle.std.specs.Iterator.{YieldsFirstBy, item_count};
-ghost use Rattle.gb_groups.specs.Groups.{lists_of, lent_pair};
+ghost use Rattle.gb_groups.specs.Groups.{lent_pair, paired};
 
 use crate::groups_idx::{BorrowIdxItem, IdxSize, IdxVec};
 use crate::groups_type::GroupsIndicator;
@@ -16,12 +16,12 @@ pub struct GroupsIdxIter<'a> {
 }
 
 impl<'a> Model for GroupsIdxIter<'a> {
-    ghost use Rattle.std.specs.Prelude.{◌≡◌, ℕ, List, length, zip};
-    ghost use Rattle.gb_groups.specs.Groups.{lists_of};
+    ghost use Rattle.std.specs.Prelude.{◌≡◌, ℕ, List, length};
+    ghost use Rattle.gb_groups.specs.Groups.{paired};
 
     ghost Value = { List (ℕ × List ℕ) };
 
-    ghost view = { λ it. zip it.first.now (lists_of it.all.now) };
+    ghost view = { λ it. paired it.first.now it.all.now };
 
     ghost invariant = { λ it. length it.first.now ≡ length it.all.now };
 }
@@ -29,7 +29,7 @@ impl<'a> Model for GroupsIdxIter<'a> {
 impl<'a> GroupsIdxIter<'a> {
     pub(crate) fn new(first: &'a [IdxSize], all: &'a [IdxVec]) -> GroupsIdxIter<'a>
         requires { length first.now ≡ length all.now }
-        ensures { result ≡ zip first.now (lists_of all.now) }
+        ensures { result ≡ paired first.now all.now }
     {
         GroupsIdxIter { first, all }
     }

@@ -1,12 +1,11 @@
 //! The first rows and the row lists of the items of several parts, part after part. Row lists are
 //! moved, never copied.
 
-ghost use Rattle.std.specs.Prelude.{◌≡◌, ◌<◌, ◌≤◌, length, map, slice_index_or, IfOk, IfErr};
-ghost use Rattle.std.specs.List.{flat_map, sum_by};
-ghost use Rattle.std.specs.Thread.{IsSync};
-ghost use Rattle.gb_defs.specs.Flat.{starts_from};
+ghost use Rattle.std.specs.Prelude.{◌≡◌, ◌<◌, ◌≤◌, length, slice_index_or, IfOk, IfErr};
 ghost use Rattle.gb_cols.specs.PlSmallStr.{IsNoMemory};
+ghost use Rattle.gb_flat.specs.Buffers.{item_count, joined, starts_of};
 ghost use Rattle.gb_flat.specs.Shares.{DealsOut};
+ghost use Rattle.gb_groups.specs.Parts.{HaveRoomFor, Hold};
 
 use crate::groups_idx::{IdxItem, IdxSize, IdxVec};
 use crate::items::push_items;
@@ -23,9 +22,8 @@ pub(crate) fn join_parts(
     parts: Vec<Vec<IdxItem>>,
     count: usize,
 ) -> PolarsResult<(Vec<IdxSize>, Vec<IdxVec>)>
-    requires { count ≡ sum_by (λ part. length part.items) parts.items }
-    ensures first_rows { IfOk result (λ made. made.0.items ≡ map (λ item. item.0) (flat_map (λ part. part.items) parts.items)) }
-    ensures lists { IfOk result (λ made. made.1.items ≡ map (λ item. item.1) (flat_map (λ part. part.items) parts.items)) }
+    requires { count ≡ item_count parts.items }
+    ensures ok { IfOk result (λ made. Hold (joined parts.items) made.0.items made.1.items) }
     ensures err { IfErr result IsNoMemory }
 {
     let mut first = Vec::with_capacity(alloc, count)?;
@@ -45,12 +43,10 @@ pub(crate) fn spread_parts<R: Threads + Sync>(
     starts: &[usize],
     workers: usize,
 ) -> PolarsResult<(Vec<IdxSize>, Vec<IdxVec>)>
-    requires row_type { IsSync R.row }
-    requires count { count ≡ sum_by (λ part. length part.items) parts.items }
-    requires starts { starts.now ≡ starts_from 0 (map (λ part. length part.items) parts.items) }
+    requires count { count ≡ item_count parts.items }
+    requires starts { starts.now ≡ starts_of 0 parts.items }
     requires workers { (0 < workers) × (workers ≤ length parts.items) }
-    ensures first_rows { IfOk result (λ made. made.0.items ≡ map (λ item. item.0) (flat_map (λ part. part.items) parts.items)) }
-    ensures lists { IfOk result (λ made. made.1.items ≡ map (λ item. item.1) (flat_map (λ part. part.items) parts.items)) }
+    ensures ok { IfOk result (λ made. Hold (joined parts.items) made.0.items made.1.items) }
     ensures err { IfErr result IsNoMemory }
 {
     let shares = split_offsets(alloc, parts.len(), workers)?;
@@ -90,13 +86,10 @@ fn move_shares<R: Threads + Sync>(
     first: &mut [IdxSize],
     all: &mut [IdxVec],
 )
-    requires row_type { IsSync R.row }
     requires dealt { DealsOut shares.now (length parts.old) }
-    requires starts { starts.now ≡ starts_from (slice_index_or starts.now 0 0) (map (λ part. length part.items) parts.old) }
-    requires first_room { length first.old ≡ sum_by (λ part. length part.items) parts.old }
-    requires all_room { length all.old ≡ sum_by (λ part. length part.items) parts.old }
-    ensures first_rows { first.new ≡ map (λ item. item.0) (flat_map (λ part. part.items) parts.old) }
-    ensures lists { all.new ≡ map (λ item. item.1) (flat_map (λ part. part.items) parts.old) }
+    requires starts { starts.now ≡ starts_of (slice_index_or starts.now 0 0) parts.old }
+    requires room { HaveRoomFor (item_count parts.old) first.old all.old }
+    ensures { Hold (joined parts.old) first.new all.new }
 {
     let Some((share, later)) = shares.split_first() else {
         move_parts(parts, first, all);
@@ -114,22 +107,22 @@ fn move_shares<R: Threads + Sync>(
     join_mut(
         rt,
         &mut ||
-            requires { (length front.now ≡ sum_by (λ part. length part.items) mine.now) × (length front_lists.now ≡ sum_by (λ part. length part.items) mine.now) }
-            ensures { (front.exit.now ≡ map (λ item. item.0) (flat_map (λ part. part.items) mine.entry.now)) × (front_lists.exit.now ≡ map (λ item. item.1) (flat_map (λ part. part.items) mine.entry.now)) }
+            requires { HaveRoomFor (item_count mine.now) front.now front_lists.now }
+            ensures { Hold (joined mine.entry.now) front.exit.now front_lists.exit.now }
         { move_parts(mine, front, front_lists) },
         &mut ||
-            requires { IsSync R.row × DealsOut later.now (length others.now) × (later_starts.now ≡ starts_from (slice_index_or later_starts.now 0 0) (map (λ part. length part.items) others.now)) × (length back.now ≡ sum_by (λ part. length part.items) others.now) × (length back_lists.now ≡ sum_by (λ part. length part.items) others.now) }
-            ensures { (back.exit.now ≡ map (λ item. item.0) (flat_map (λ part. part.items) others.entry.now)) × (back_lists.exit.now ≡ map (λ item. item.1) (flat_map (λ part. part.items) others.entry.now)) }
+            requires { DealsOut later.now (length others.now)
+                × (later_starts.now ≡ starts_of (slice_index_or later_starts.now 0 0) others.now)
+                × HaveRoomFor (item_count others.now) back.now back_lists.now }
+            ensures { Hold (joined others.entry.now) back.exit.now back_lists.exit.now }
         { move_shares(rt, later, later_starts, others, back, back_lists) },
     );
 }
 
 // The same by one worker.
 fn move_parts(parts: &mut [Vec<IdxItem>], first: &mut [IdxSize], all: &mut [IdxVec])
-    requires first_room { length first.old ≡ sum_by (λ part. length part.items) parts.old }
-    requires all_room { length all.old ≡ sum_by (λ part. length part.items) parts.old }
-    ensures first_rows { first.new ≡ map (λ item. item.0) (flat_map (λ part. part.items) parts.old) }
-    ensures lists { all.new ≡ map (λ item. item.1) (flat_map (λ part. part.items) parts.old) }
+    requires room { HaveRoomFor (item_count parts.old) first.old all.old }
+    ensures { Hold (joined parts.old) first.new all.new }
 {
     let mut at = 0;
     for part in parts.iter_mut() {
@@ -143,10 +136,8 @@ fn move_parts(parts: &mut [Vec<IdxItem>], first: &mut [IdxSize], all: &mut [IdxV
 
 // Moves the items of one part.
 fn move_items(items: Vec<IdxItem>, first: &mut [IdxSize], all: &mut [IdxVec])
-    requires first_room { length first.old ≡ length items.items }
-    requires all_room { length all.old ≡ length items.items }
-    ensures first_rows { first.new ≡ map (λ item. item.0) items.items }
-    ensures lists { all.new ≡ map (λ item. item.1) items.items }
+    requires room { HaveRoomFor (length items.items) first.old all.old }
+    ensures { Hold items.items first.new all.new }
 {
     let mut place = 0;
     for (row, rows) in items {

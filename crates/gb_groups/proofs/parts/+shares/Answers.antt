@@ -1,7 +1,7 @@
-use Rattle.std.proofs.Common.{rules, ◌≡◌, length, take, drop, ℕ, refl, arith, Vec, Global}
-use Rattle.std.specs.List.{sum_by}
-use Rattle.smallvec.specs.SmallVec.{SmallVec}
+use Rattle.std.proofs.Common.{rules, take, drop, refl, arith}
+use Rattle.gb_flat.specs.Buffers.{item_count}
 use Rattle.gb_flat.proofs.FillLemmas.{is_cut}
+use Rattle.gb_groups.specs.Parts.{HaveRoomFor}
 use Rattle.gb_groups.proofs.parts.+shares.Goals as goal
 
 pub split_at-requires : goal.split_at-requires
@@ -36,8 +36,6 @@ join_mut-requires-after_bounds g t c κs within =
     let cut = is_cut c.in-Some.ensures.cases.0 c.if-is_empty.ensures c.requires.dealt c.requires.starts c.split_at.ensures.back c.split_at_mut-mine.ensures.front c.split_at_mut-mine.ensures.back in
     let starts = cut.starts_are in
     let dealt = cut.dealt in
-    let front : length c.split_at_mut-front.result.0.now ≡ sum_by {X = Vec (ℕ × SmallVec ℕ) Global} (λ part. length part.items) mine = omega arith in
-    let back : length c.split_at_mut-front.result.1.now ≡ sum_by {X = Vec (ℕ × SmallVec ℕ) Global} (λ part. length part.items) others = omega arith in
-    let front_lists : length c.split_at_mut-front_lists.result.0.now ≡ sum_by {X = Vec (ℕ × SmallVec ℕ) Global} (λ part. length part.items) mine = omega arith in
-    let back_lists : length c.split_at_mut-front_lists.result.1.now ≡ sum_by {X = Vec (ℕ × SmallVec ℕ) Global} (λ part. length part.items) others = omega arith in
+    let front : HaveRoomFor (item_count mine) c.split_at_mut-front.result.0.now c.split_at_mut-front_lists.result.0.now = record { first_room = omega arith; all_room = omega arith } in
+    let back : HaveRoomFor (item_count others) c.split_at_mut-front.result.1.now c.split_at_mut-front_lists.result.1.now = record { first_room = omega arith; all_room = omega arith } in
     search rules

@@ -1,4 +1,5 @@
-use Rattle.std.proofs.Common.{◌≡◌, length, map, take}
+use Rattle.std.proofs.Common.{◌≡◌, length, take}
+use Rattle.gb_groups.specs.Parts.{Hold}
 use Rattle.gb_groups.proofs.parts.move_items.Given as goal
 
 abbrev pub invariant-loop-row : goal.invariant-loop-row
@@ -6,6 +7,5 @@ invariant-loop-row l = record {
   can_next : (goal.iterator-loop-row).can_next l.row-iterator;
   ends : (goal.iterator-loop-row).is_finite l.row-iterator;
   at : l.place ≡ length l.yielded;
-  first_rows : take l.place l.first ≡ map (λ item. item.0) l.yielded;
-  lists : take l.place l.all ≡ map (λ item. item.1) l.yielded;
+  moved : Hold l.yielded (take l.place l.first) (take l.place l.all);
 }

@@ -30,6 +30,8 @@ loop-part-preserved c =
     record {
       place = omega arith;
       left = rw (drop-set-lt (i + 1) c.loop-part.parts i c.replace-items.new.dest (omega arith)) (drop_more_same c.loop-part.parts old i c.loop-part.invariant.left);
-      first_rows = written_more (λ part. part.items) (λ item. item.0) old i c.replace-items.result c.part-item.result c.loop-part.first c.move_items.new.first c.loop-part.at _ c.len.result here part (omega arith) count c.loop-part.invariant.first_rows c.move_items.ensures.first_rows;
-      lists = written_more (λ part. part.items) (λ item. item.1) old i c.replace-items.result c.part-item.result c.loop-part.all c.move_items.new.all c.loop-part.at _ c.len.result here part (omega arith) count c.loop-part.invariant.lists c.move_items.ensures.lists;
+      moved = record {
+        first_rows = written_more (λ part. part.items) (λ item. item.0) old i c.replace-items.result c.part-item.result c.loop-part.first c.move_items.new.first c.loop-part.at _ c.len.result here part (omega arith) count c.loop-part.invariant.moved.first_rows c.move_items.ensures.first_rows;
+        row_lists = written_more (λ part. part.items) (λ item. item.1) old i c.replace-items.result c.part-item.result c.loop-part.all c.move_items.new.all c.loop-part.at _ c.len.result here part (omega arith) count c.loop-part.invariant.moved.row_lists c.move_items.ensures.row_lists;
+      };
     }

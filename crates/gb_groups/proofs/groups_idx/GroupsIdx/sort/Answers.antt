@@ -1,16 +1,13 @@
-use Rattle.std.proofs.Common.{arith, rules, ◌++◌, Bool, ℕ, List, map, sym, ◌∙◌, ap}
+use Rattle.std.proofs.Common.{arith, rules, ◌++◌, ℕ, map, sym, ◌∙◌, ap}
 use Rattle.std.proofs.lemmas.Fn.{always_returns_same}
 use Rattle.std.proofs.lemmas.List.{length-map}
 use Rattle.std.proofs.lemmas.Result.{err_from_is_err_and}
 use Rattle.smallvec.specs.SmallVec.{SmallVec}
-use Rattle.gb_defs.specs.Groups.{Grouping, Idx}
+use Rattle.gb_defs.specs.Groups.{idx_groups}
 use Rattle.gb_groups.specs.Groups.{lists_of, pairs_of}
 use Rattle.gb_groups.proofs.ItemLemmas.{put_into}
 use Rattle.gb_groups.proofs.OrderLemmas.{row_of, by_first, by_first_still, rows_ascend}
 use Rattle.gb_groups.proofs.groups_idx.GroupsIdx.sort.Goals as goal
-
-abbrev flagged_as : Bool → List (ℕ × List ℕ) → Grouping
-flagged_as flagged pairs = record { pairs = pairs; form = Idx; flagged = flagged }
 
 pub returns-then-self-clause-sorted : goal.returns-then-self-clause-sorted
 returns-then-self-clause-sorted c =
@@ -35,7 +32,7 @@ returns-in_err-sorted-clause-unchanged c =
     let sorted = c.sort_by_key-sorted.new.self.items in
     let back = put_into sorted _ _ _ _ c.in_ok-items.ensures.first_empty c.in_ok-items.ensures.all_empty c.push_items.ensures.first_rows c.push_items.ensures.lists in
     let same = back ∙ ap pairs_of c.in_err-sorted.ensures.err ∙ c.in_ok-items.ensures.ok in
-    rw err.1 (ap (flagged_as c.self.inside.sorted) same ∙ c.self.view_is)
+    rw err.1 (ap (λ pairs. idx_groups pairs c.self.inside.sorted) same ∙ c.self.view_is)
 
 pub invariant_of-self-2 : goal.invariant_of-self-2
 invariant_of-self-2 c =
