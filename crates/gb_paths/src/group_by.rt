@@ -69,6 +69,6 @@ pub fn group_uncounted<R: KeyRows>(
     ensures formed { IfOk result (λ g. IsWellFormed (R.rows rows.now).count (groups_of g).pairs) }
     ensures err { IfErr result IsNoMemory }
 {
-    // The counter takes no memory and no time: it is a name of its own, `Brand`, in one part.
+    // The counter is for proofs alone and takes no memory: `Brand` is its name, and it is in one part.
     group_blank::<R, Brand>(alloc, rows, sorted, Blank::new(1))
 }

@@ -35,7 +35,8 @@ pub fn number_groups<R: KeyRows, L: Ledger>(
     requires few { HasRowNumbers (R.rows rows.now).count }
     requires members { AreMembers (length hashes.now) members.now }
     requires hashes { AreHashes (R.rows rows.now) 0 hashes.now }
-    ensures classes { IfOk result (λ found. pairs_by members.now found.of_rows.items found.first.items
+    ensures classes { IfOk result (λ found.
+        pairs_by members.now found.of_rows.items found.first.items
         ≡ groups_among (R.rows rows.now) members.now) }
     ensures ascend { IfOk result (λ found. IsNonDecreasing found.first.items) }
     ensures known { IfOk result (λ found.

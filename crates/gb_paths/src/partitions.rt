@@ -24,7 +24,8 @@ pub fn partition_rows(
 ) -> PolarsResult<Vec<IdxVec>>
     requires some { 1 ≤ n_partitions }
     requires few { HasRowNumbers (length hashes.now) }
-    ensures rows { IfOk result (λ lists. (r : Rows) → AreHashes r 0 hashes.now → lists_of lists.items
+    ensures rows { IfOk result (λ lists. (r : Rows) → AreHashes r 0 hashes.now
+        → lists_of lists.items
         ≡ rows_by_partition r.hash n_partitions (rows_below (length hashes.now))) }
     ensures members { IfOk result (λ lists.
         All (AreMembers (length hashes.now)) (lists_of lists.items)) }

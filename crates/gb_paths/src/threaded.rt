@@ -231,7 +231,7 @@ fn enter_partition<R: KeyRows, G: Gate>(
     ensures err { IfErr result IsNoMemory }
 {
     gate.enter(partition);
-    // The counter takes no memory and no time: it is a name of its own, `Brand`, in one part.
+    // The counter is for proofs alone and takes no memory: `Brand` is its name, and it is in one part.
     let groups = group_partition::<R, Brand>(alloc, rows, members, hashes, Blank::new(1));
     gate.leave(partition);
     groups
