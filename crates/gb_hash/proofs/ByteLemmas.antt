@@ -1,6 +1,6 @@
 -- Words of eight bytes.
 use Rattle.std.proofs.Common.{arith, ap, ◌∙◌, sym}
-use Rattle.std.specs.Prelude.{◌≡◌, ◌<◌, ◌≤◌, ◌+◌, ℕ, zero, suc, List, [], ◌∷◌, length, take, drop, get_or, refl}
+use Rattle.std.specs.Prelude.{◌≡◌, ◌<◌, ◌≤◌, ◌+◌, ℕ, zero, suc, List, ◌∷◌, length, take, drop, get_or}
 use Rattle.std.specs.List.{fold}
 use Rattle.std.specs.Int.{w64, from_le_bytes, sum_through, byte_worth, div_ceil}
 use Rattle.std.proofs.lemmas.List.{get_or-take, length-drop}
@@ -25,16 +25,6 @@ words_more xs h =
     let shorter : length (drop 8 xs) + 8 ≡ length xs = omega (arith, length-drop 8 xs) in
     let more : div_ceil (length xs) 8 ≡ suc (div_ceil (length (drop 8 xs)) 8) = rw (sym shorter) (omega arith) in
     rw (word_taken xs) (ap (λ n. words_from n xs) more)
-
-pub words_last : (xs : List ℕ) → 0 < length xs → length xs < 8 → words_of xs ≡ from_le_bytes w64 xs ∷ []
-words_last xs h l =
-    let one : div_ceil (length xs) 8 ≡ 1 = omega arith in
-    ap (λ n. words_from n xs) one
-
-pub words_none : (xs : List ℕ) → length xs ≡ 0 → words_of xs ≡ []
-words_none xs h =
-    let none : div_ceil (length xs) 8 ≡ 0 = rw h refl in
-    ap (λ n. words_from n xs) none
 
 -- the first word of the bytes into the hash, and then the other words
 pub fold_more : (next : ℕ → ℕ → ℕ) (hash more word all : ℕ) (rest first after : List ℕ) → first ≡ take 8 rest → after ≡ drop 8 rest → length after + 8 ≡ length rest

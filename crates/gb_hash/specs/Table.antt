@@ -1,7 +1,12 @@
 -- A table of groups by hash. A slot holds 0 where it is free, else a group's number and 1.
-use Rattle.std.specs.Prelude.{◌≡◌, ◌≢◌, ℕ, ◌+◌, ◌*◌, ◌%◌, ◌^◌, ◌<◌, ◌≤◌, ◌==◌, ◌⊎◌, Bool, true, false, List, [], ◌∷◌, ◌++◌, length, slice_index, slice_index_or, All, count_by}
+use Rattle.std.specs.Prelude.{◌≡◌, ◌≢◌, ℕ, ◌+◌, ◌*◌, ◌%◌, ◌^◌, ◌<◌, ◌≤◌, ◌==◌, ◌⊎◌, Bool, true, false, List, [], ◌∷◌, ◌++◌, length, slice_index, slice_index_or, IsTrue, All, count_by}
 
 -- ---- what a caller sees: a list of each group's key and hash
+
+-- a group with this key has this hash
+abbrev pub AgreesInHash : {K : Type 0} → (K → K → Bool) → List (K × ℕ) → K → ℕ → Type 0
+AgreesInHash eq entries key hash =
+    (g : ℕ) (d : _) → g < length entries → IsTrue (eq (slice_index_or entries g d).0 key) → (slice_index_or entries g d).1 ≡ hash
 
 -- the number is that of an entry with this key, and none was added
 pub record IsKnown {K : Type 0} (eq : K → K → Bool) (old new : List (K × ℕ)) (key : K) (number : ℕ) : Type 0 where
@@ -15,6 +20,7 @@ pub record IsAdded {K : Type 0} (eq : K → K → Bool) (old new : List (K × �
   pub last : number ≡ length old
   pub added : new ≡ old ++ (key, hash) ∷ []
 
+-- the number is that of the key's group, which was there or is new
 abbrev pub IsNumbered : {K : Type 0} → (K → K → Bool) → List (K × ℕ) → List (K × ℕ) → K → ℕ → ℕ → Type 0
 IsNumbered eq old new key hash number = IsKnown eq old new key number ⊎ IsAdded eq old new key hash number
 

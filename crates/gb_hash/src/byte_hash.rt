@@ -3,20 +3,10 @@
 ghost use Rattle.std.specs.Prelude.{◌≡◌, ◌<◌, length};
 ghost use Rattle.std.specs.Int.{w64, from_le_bytes};
 ghost use Rattle.std.specs.List.{fold};
-ghost use Rattle.gb_defs.specs.Hash.{null_hash, hash_bytes, fold_word, words_of};
+ghost use Rattle.gb_defs.specs.Hash.{hash_bytes, fold_word, words_of};
 
-use crate::dirty_hash::with_word;
 use crate::mixer::Mixer;
-
-/// The hash of a null.
-#[inline]
-#[tactic(auto, unfolding(gb_defs::specs::Hash::null_hash))]
-pub fn hash_null<M: Mixer>(mixer: &M) -> u64
-    ensures { result ≡ null_hash (M.seed_of mixer.now) (M.mix_of mixer.now) }
-{
-    let once = with_word(mixer, mixer.seed(), 3_188_347_919);
-    with_word(mixer, mixer.seed(), once)
-}
+use crate::word_hash::{hash_null, with_word};
 
 /// The hash of the bytes of a text, with its length.
 pub fn hash_text<M: Mixer>(mixer: &M, bytes: &[u8]) -> u64

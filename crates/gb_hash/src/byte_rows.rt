@@ -1,16 +1,17 @@
 //! The rows of a column of texts.
 
-ghost use Rattle.std.specs.Prelude.{◌≡◌, ℕ, length};
+ghost use Rattle.std.specs.Prelude.{◌≡◌};
 ghost use Rattle.std.specs.Int.{w64};
-ghost use Rattle.gb_defs.specs.Slot.{slot_at};
+ghost use Rattle.gb_defs.specs.Rows.{rows_of_slots};
 ghost use Rattle.gb_defs.specs.Hash.{hash_of};
 ghost use Rattle.gb_cols.specs.Array.{text_slot};
-ghost use Rattle.gb_hash.specs.Rows.{texts_decide, one_hash};
+ghost use Rattle.gb_hash.specs.Keys.{texts_decide, slots_alike};
 
-use crate::byte_hash::{hash_null, hash_text};
+use crate::byte_hash::hash_text;
 use crate::key_rows::KeyRows;
 use crate::mixer::Mixer;
 use crate::steps::Steps;
+use crate::word_hash::hash_null;
 use gb_cols::chunked::StringChunked;
 use std::sync::ledger::Ledger;
 
@@ -33,17 +34,13 @@ impl<'a, M: Mixer> ByteRows<'a, M> {
 impl<'a, M: Mixer + Sync> KeyRows for ByteRows<'a, M> {
     type Key = Option<&'a str>;
 
-    ghost row_count = { λ rows. length rows.column.now.slots };
-
-    ghost slot = { λ rows i. slot_at rows.column.now.slots i };
-
-    ghost row_hash = { λ rows i. hash_of w64 (M.seed_of rows.mixer) (M.mix_of rows.mixer) (slot_at rows.column.now.slots i) };
+    ghost rows = { λ r. rows_of_slots w64 (M.seed_of r.mixer) (M.mix_of r.mixer) r.column.now.slots };
 
     ghost key_slot = { text_slot };
 
     ghost keys_decide = { texts_decide };
 
-    ghost hashes_alike = { λ rows i j _ _ e. one_hash w64 (M.seed_of rows.mixer) (M.mix_of rows.mixer) _ _ e };
+    ghost hashes_alike = { λ r. slots_alike w64 (M.seed_of r.mixer) (M.mix_of r.mixer) r.column.now.slots };
 
     fn len(&self) -> usize {
         self.column.len()
@@ -62,7 +59,8 @@ impl<'a, M: Mixer + Sync> KeyRows for ByteRows<'a, M> {
 // The hash of a text, or that of null.
 #[inline]
 fn hash_option<M: Mixer>(mixer: &M, text: Option<&str>) -> u64
-    ensures { result ≡ hash_of w64 (M.seed_of mixer.now) (M.mix_of mixer.now) (text_slot text.entry) }
+    ensures { result ≡ hash_of w64 (M.seed_of mixer.now) (M.mix_of mixer.now)
+        (text_slot text.entry) }
 {
     match text {
         None => hash_null(mixer),

@@ -4,10 +4,11 @@ ghost use Rattle.std.specs.Prelude.{◌≡◌, ℕ, ℤ, pos};
 ghost use Rattle.std.specs.Int.{Width, w8, w16, w32, w64, w128};
 ghost use Rattle.std.specs.Bool.{Decides};
 ghost use Rattle.std.proofs.lemmas.Bool.Decides.{Decides-int_eq};
-ghost use Rattle.gb_defs.specs.Hash.{hash_number, fold_word, hash_halves};
+ghost use Rattle.gb_defs.specs.Hash.{hash_number, hash_halves};
 ghost use Rattle.gb_cols.specs.Native.{Decides-pos};
 
 use crate::mixer::Mixer;
+use crate::word_hash::with_word;
 
 /// A number that has a hash under any mixer.
 pub trait DirtyHash: Eq {
@@ -18,18 +19,11 @@ pub trait DirtyHash: Eq {
     ghost number: { Self → ℤ };
 
     fn dirty_hash<M: Mixer>(&self, mixer: &M) -> u64
-        ensures { result ≡ hash_number width (M.seed_of mixer.now) (M.mix_of mixer.now) (number self.now) };
+        ensures { result ≡ hash_number width (M.seed_of mixer.now) (M.mix_of mixer.now)
+            (number self.now) };
 
     // Values are equal where their numbers are.
     ghost equal_by_number: { (a b : Self) → Decides (Self.eq a b) (number a ≡ number b) };
-}
-
-// The hash so far, with one more word.
-#[inline]
-pub(crate) fn with_word<M: Mixer>(mixer: &M, hash: u64, word: u64) -> u64
-    ensures { result ≡ fold_word (M.mix_of mixer.now) hash word }
-{
-    mixer.mix(hash ^ mixer.mix(word))
 }
 
 // The hash of 128 bits.

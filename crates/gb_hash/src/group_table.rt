@@ -1,8 +1,8 @@
 //! The numbers of groups by their keys.
 
-ghost use Rattle.std.specs.Prelude.{◌≡◌, ℕ, ◌-◌, ◌*◌, ◌^◌, ◌<◌, ◌≤◌, ◌==◌, [], IsTrue, IfOk, OnOk, OnErr, length, count_by, slice_index_or};
-ghost use Rattle.gb_hash.specs.Table.{IsTable, IsFreeFor, IsPowerOfTwo, IsRoomy, IsNumbered};
-ghost use Rattle.gb_hash.specs.Entry.{hashes_of, IsSpot};
+ghost use Rattle.std.specs.Prelude.{◌≡◌, ℕ, ◌-◌, ◌*◌, ◌^◌, ◌<◌, ◌≤◌, ◌==◌, [], IfOk, OnOk, OnErr, length, count_by};
+ghost use Rattle.gb_hash.specs.Table.{AgreesInHash, IsTable, IsFreeFor, IsPowerOfTwo, IsRoomy, IsNumbered};
+ghost use Rattle.gb_hash.specs.Entry.{hashes_of, AgreeInHash, IsSpot};
 
 use std::alloc::{AllocError, Global};
 use std::marker::Model;
@@ -64,7 +64,7 @@ impl<K: Copy + Eq> GroupTable<K> {
     #[inline]
     pub fn number_of(&mut self, key: K, hash: u64) -> Result<u32, AllocError>
         requires few { length self.old < 2 ^ 32 - 1 }
-        requires alike { (g : ℕ) (d : _) → g < length self.old → IsTrue (K.eq (slice_index_or self.old g d).0 key) → (slice_index_or self.old g d).1 ≡ hash }
+        requires alike { AgreesInHash K.eq self.old key hash }
         ensures found { IfOk result (λ number. IsNumbered K.eq self.old self.new key hash number) }
         ensures unchanged { OnErr result (self.new ≡ self.old) }
     {
@@ -87,7 +87,7 @@ impl<K: Copy + Eq> GroupTable<K> {
 fn probe<K: Copy + Eq>(slots: &[u32], entries: &[Entry<K>], key: K, hash: u64) -> Spot
     requires table { IsTable slots.now (hashes_of entries.now) }
     requires room { length entries.now < length slots.now }
-    requires alike { (g : ℕ) (d : _) → g < length entries.now → IsTrue (K.eq (slice_index_or entries.now g d).key key) → (slice_index_or entries.now g d).hash ≡ hash }
+    requires alike { AgreeInHash K.eq entries.now key hash }
     ensures { IsSpot K.eq slots.now entries.now hash key result }
 {
     let mask = slots.len() - 1;
@@ -157,3 +157,6 @@ fn free_spot(slots: &[u32], hash: u64) -> usize
     }
     unreachable!()
 }
+
+#[cfg(test)]
+mod tests;

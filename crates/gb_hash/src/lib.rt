@@ -1,7 +1,8 @@
 //! Hashes of whole numbers and texts, and what is done with a hash. A hash follows from the bits, the
 //! seed and the mixing function of a mixer, so that equal values hash alike in every run. A hash is
 //! joined with another, or picks one of several partitions. The rows of a column have keys and hashes,
-//! and to read a key is one step, which is counted.
+//! and to read a key is one step, which is counted. A table of groups finds the number of a key's group
+//! by its hash.
 #![tactic(auto)]
 
 pub mod byte_hash;
@@ -13,11 +14,8 @@ pub mod id_hasher;
 pub mod key_rows;
 pub mod mixer;
 pub mod num_rows;
-#[cfg(test)]
-mod row_tests;
 pub mod slice_rows;
 pub mod steps;
 #[cfg(test)]
-mod table_tests;
-#[cfg(test)]
 mod tests;
+pub mod word_hash;

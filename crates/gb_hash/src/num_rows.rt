@@ -1,17 +1,17 @@
 //! The rows of a column of numbers.
 
-ghost use Rattle.std.specs.Prelude.{◌≡◌, ℕ, length};
+ghost use Rattle.std.specs.Prelude.{◌≡◌};
 ghost use Rattle.std.specs.Int.{Width, w32, w64};
-ghost use Rattle.gb_defs.specs.Slot.{slot_at};
+ghost use Rattle.gb_defs.specs.Rows.{rows_of_slots};
 ghost use Rattle.gb_defs.specs.Hash.{hash_of, hash_number};
 ghost use Rattle.gb_cols.specs.Array.{number_slot_of};
-ghost use Rattle.gb_hash.specs.Rows.{numbers_decide, one_hash};
+ghost use Rattle.gb_hash.specs.Keys.{numbers_decide, slots_alike};
 
-use crate::byte_hash::hash_null;
 use crate::dirty_hash::DirtyHash;
 use crate::key_rows::KeyRows;
 use crate::mixer::Mixer;
 use crate::steps::Steps;
+use crate::word_hash::hash_null;
 use gb_cols::chunked::ChunkedArray;
 use gb_cols::numeric::{Int64Type, PolarsNumericType, UInt32Type};
 use gb_cols::primitive::PrimitiveArray;
@@ -24,7 +24,8 @@ pub trait HashNumericType: PolarsNumericType {
     ghost width: { Width };
 
     fn hash_native<M: Mixer>(n: Self::Native, mixer: &M) -> u64
-        ensures { result ≡ hash_number width (M.seed_of mixer.now) (M.mix_of mixer.now) (Self.number n) };
+        ensures { result ≡ hash_number width (M.seed_of mixer.now) (M.mix_of mixer.now)
+            (Self.number n) };
 }
 
 impl HashNumericType for Int64Type {
@@ -67,17 +68,13 @@ where
 {
     type Key = Option<T::Native>;
 
-    ghost row_count = { λ rows. length rows.column.now.slots };
-
-    ghost slot = { λ rows i. slot_at rows.column.now.slots i };
-
-    ghost row_hash = { λ rows i. hash_of T.width (M.seed_of rows.mixer) (M.mix_of rows.mixer) (slot_at rows.column.now.slots i) };
+    ghost rows = { λ r. rows_of_slots T.width (M.seed_of r.mixer) (M.mix_of r.mixer) r.column.now.slots };
 
     ghost key_slot = { number_slot_of T.number };
 
     ghost keys_decide = { numbers_decide T.Native.eq T.number T.eq_by_number };
 
-    ghost hashes_alike = { λ rows i j _ _ e. one_hash T.width (M.seed_of rows.mixer) (M.mix_of rows.mixer) _ _ e };
+    ghost hashes_alike = { λ r. slots_alike T.width (M.seed_of r.mixer) (M.mix_of r.mixer) r.column.now.slots };
 
     fn len(&self) -> usize {
         self.column.len()
@@ -96,7 +93,8 @@ where
 // The hash of a number, or that of null.
 #[inline]
 fn hash_option<T: HashNumericType, M: Mixer>(mixer: &M, number: Option<T::Native>) -> u64
-    ensures { result ≡ hash_of T.width (M.seed_of mixer.now) (M.mix_of mixer.now) (number_slot_of T.number number) }
+    ensures { let slot = number_slot_of T.number number in
+        result ≡ hash_of T.width (M.seed_of mixer.now) (M.mix_of mixer.now) slot }
 {
     match number {
         None => hash_null(mixer),

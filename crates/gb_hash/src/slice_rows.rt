@@ -1,9 +1,9 @@
 //! The rows of a slice of numbers.
 
-ghost use Rattle.std.specs.Prelude.{◌≡◌, length, map};
-ghost use Rattle.gb_defs.specs.Slot.{slot_at, Num};
-ghost use Rattle.gb_defs.specs.Hash.{hash_of};
-ghost use Rattle.gb_hash.specs.Rows.{keys_decide_by, one_hash};
+ghost use Rattle.std.specs.Prelude.{◌≡◌};
+ghost use Rattle.gb_defs.specs.Slot.{Num};
+ghost use Rattle.gb_defs.specs.Rows.{rows_of_slots};
+ghost use Rattle.gb_hash.specs.Keys.{key_slots, keys_decide_by, slots_alike};
 
 use crate::dirty_hash::DirtyHash;
 use crate::key_rows::KeyRows;
@@ -32,17 +32,13 @@ impl<'a, K: Copy + Eq + Hash + Send + Sync + DirtyHash, M: Mixer + Sync> KeyRows
     for SliceRows<'a, K, M> {
     type Key = K;
 
-    ghost row_count = { λ rows. length rows.keys.now };
-
-    ghost slot = { λ rows i. slot_at (map (λ k. Num (K.number k)) rows.keys.now) i };
-
-    ghost row_hash = { λ rows i. hash_of K.width (M.seed_of rows.mixer) (M.mix_of rows.mixer) (slot_at (map (λ k. Num (K.number k)) rows.keys.now) i) };
+    ghost rows = { λ r. rows_of_slots K.width (M.seed_of r.mixer) (M.mix_of r.mixer) (key_slots K.number r.keys.now) };
 
     ghost key_slot = { λ k. Num (K.number k) };
 
     ghost keys_decide = { keys_decide_by K.eq K.number K.equal_by_number };
 
-    ghost hashes_alike = { λ rows i j _ _ e. one_hash K.width (M.seed_of rows.mixer) (M.mix_of rows.mixer) _ _ e };
+    ghost hashes_alike = { λ r. slots_alike K.width (M.seed_of r.mixer) (M.mix_of r.mixer) (key_slots K.number r.keys.now) };
 
     fn len(&self) -> usize {
         self.keys.len()

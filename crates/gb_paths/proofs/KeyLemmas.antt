@@ -1,5 +1,5 @@
 -- Rows that are numbered by a table of the groups' keys.
-use Rattle.std.proofs.Common.{◌≡◌, ℕ, ◌+◌, ◌<◌, ◌≤◌, Bool, inl, inr, List, [], ◌∷◌, ◌++◌, length, get_or, map, take, zip, refl, sym, ◌∙◌, ap, arith, IsTrue, All}
+use Rattle.std.proofs.Common.{◌≡◌, ℕ, ◌+◌, ◌<◌, ◌≤◌, Bool, inl, inr, List, [], ◌∷◌, ◌++◌, length, get_or, map, take, refl, sym, ◌∙◌, ap, arith, IsTrue, All}
 use Rattle.std.specs.List.{AllByRecursion}
 use Rattle.std.specs.List.Sorted.{IsNonDecreasing, IsStrictlyIncreasing}
 use Rattle.std.specs.Bool.{Decides}
@@ -10,11 +10,13 @@ use Rattle.std.proofs.lemmas.List.Elements.{All-filter, All-nil, All-push, All-t
 use Rattle.std.proofs.lemmas.List.Sums.{count_by-le-length, length-filter}
 use Rattle.std.proofs.lemmas.List.Kept.{AllPairs-from_increasing, IsNonDecreasingBy-filter}
 use Rattle.gb_defs.specs.Classes.{firsts, groups, is_first}
+use Rattle.gb_defs.specs.Groups.{AreMembers}
+use Rattle.gb_defs.specs.Rows.{same_slot_at}
 use Rattle.gb_defs.specs.Slot.{Slot, slot_eq}
 use Rattle.gb_defs.proofs.ClassesLemmas.{IsGrouped, groups_from, grouped_none, grouped_old, grouped_new, place_at, place_none_from}
 use Rattle.gb_defs.proofs.SlotLemmas.{slot_eq_equiv, slot_eq_from_Decides}
 use Rattle.gb_hash.specs.Table.{IsAdded, IsKnown, IsNumbered}
-use Rattle.gb_paths.specs.Numbers.{AreMembers, lists_by, same_slot_at}
+use Rattle.gb_paths.specs.Numbers.{lists_by, pairs_by}
 use Rattle.gb_paths.proofs.NumberLemmas.{lists_old, lists_new}
 
 ascending : (rows : List ℕ) → IsStrictlyIncreasing rows → IsNonDecreasing rows
@@ -139,7 +141,7 @@ module _ {K : Type 0} (eq : K → K → Bool) (key_slot : K → Slot) (slot : �
         ]
 
   module _ {rows : List ℕ} {n : ℕ} {entries : List (K × ℕ)} {first numbers : List ℕ} (all : length rows ≤ n) (s : AreNumbered rows n entries first numbers) where
-    pub numbered_groups : zip first (lists_by rows numbers (length first)) ≡ groups (same_slot_at slot) rows
+    pub numbered_groups : pairs_by rows numbers first ≡ groups (same_slot_at slot) rows
     numbered_groups =
         let whole : take n rows ≡ rows = take_all n rows all in
         groups_from (same_slot_at slot) rows first _ (rw whole at s.grouped)
@@ -149,6 +151,3 @@ module _ {K : Type 0} (eq : K → K → Bool) (key_slot : K → Slot) (slot : �
     numbered_ascend up =
         let whole : take n rows ≡ rows = take_all n rows all in
         rw (s.grouped.first_is, whole) (IsNonDecreasingBy-filter (λ x. x) (is_first (same_slot_at slot) rows) rows (ascending rows up))
-
-    pub numbered_each : length numbers ≡ length rows
-    numbered_each = s.each ∙ ap length (take_all n rows all)

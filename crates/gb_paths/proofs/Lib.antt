@@ -1,3 +1,5 @@
+pub mod FormLemmas
+pub mod HashLemmas
 pub mod KeyLemmas
 pub mod MemberLemmas
 pub mod NumberLemmas

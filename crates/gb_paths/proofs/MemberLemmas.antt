@@ -1,18 +1,20 @@
 -- Rows that ascend: all rows, those that pass a test, and one more at their end.
-use Rattle.std.proofs.Common.{◌≡◌, ℕ, zero, suc, ◌+◌, ◌<◌, ◌≤◌, Bool, List, [], ◌∷◌, ◌++◌, length, get_or, map, filter, take, drop, All, refl, ◌∙◌, ap, arith, eqb, inl, inr, zero-add}
+use Rattle.std.proofs.Common.{◌≡◌, ℕ, zero, suc, ◌+◌, ◌<◌, ◌≤◌, Bool, List, [], ◌∷◌, length, get_or, map, filter, take, All, refl, ◌∙◌, ap, arith, eqb, inl, inr}
 use Rattle.std.specs.List.{range_with_len, AllByRecursion}
 use Rattle.std.specs.List.Sorted.{IsStrictlyIncreasing}
-use Rattle.std.proofs.lemmas.List.{drop-map, get_or-map, length-map}
-use Rattle.std.proofs.lemmas.List.Elements.{All-drop, All-filter, All-map, All-take, All-from_recursion, recursion_from_All}
+use Rattle.std.proofs.lemmas.List.{get_or-map, length-map}
+use Rattle.std.proofs.lemmas.List.Elements.{All-filter, All-map, All-from_recursion, recursion_from_All}
 use Rattle.std.proofs.lemmas.Bool.{cases_Bool}
+use Rattle.std.proofs.lemmas.Simd.{map-map}
 use Rattle.std.proofs.lemmas.List.FromFn.{get_or-range_with_len, length-range_with_len}
 use Rattle.std.proofs.lemmas.List.Kept.{AllPairs-from_increasing, IsStrictlyIncreasing-filter}
 use Rattle.gb_defs.specs.Classes.{rows_below}
+use Rattle.gb_defs.specs.Groups.{AreMembers}
 use Rattle.gb_defs.specs.Hash.{partition_of}
 use Rattle.gb_defs.specs.Partitions.{in_partition}
 use Rattle.gb_defs.proofs.ClassesLemmas.{rows_below_all}
-use Rattle.gb_paths.specs.Numbers.{AreMembers, lists_by, rows_of}
-use Rattle.gb_paths.specs.Partitions.{AreListed, AreWithin}
+use Rattle.gb_paths.specs.Numbers.{lists_by, rows_of}
+use Rattle.gb_paths.specs.Partitions.{AreWithin, rows_by_partition}
 use Rattle.smallvec.specs.SmallVec.{SmallVec}
 use Rattle.gb_groups.specs.Groups.{lists_of}
 use Rattle.gb_paths.proofs.NumberLemmas.{map_range_same, rows_by}
@@ -31,6 +33,12 @@ pub some_members : (n : ℕ) (test : ℕ → Bool) (rows : List ℕ) → AreMemb
 some_members n test rows m = record {
   below = All-filter test (λ row. row < n) rows m.below;
   ascend = IsStrictlyIncreasing-filter test rows m.ascend;
+}
+
+pub members_more : (m n : ℕ) (rows : List ℕ) → m ≤ n → AreMembers m rows → AreMembers n rows
+members_more m n rows few members = record {
+  below = λ k d lt. let inside = members.below k d lt in omega (arith, few, inside);
+  ascend = members.ascend;
 }
 
 -- strictly ascending numbers are no fewer than their places
@@ -85,14 +93,10 @@ pairs_ascend (r ∷ rs) h (suc k) within =
 
 -- ---- the rows of each partition
 
-map_same : (f h : ℕ → ℕ) (rows : List ℕ) → map f (map h rows) ≡ map (λ row. f (h row)) rows
-map_same f h [] = refl
-map_same f h (r ∷ rs) = ap (λ xs. f (h r) ∷ xs) (map_same f h rs)
-
 pub partition_lists : (hash : ℕ → ℕ) (n : ℕ) (rows hashes numbers : List ℕ) → hashes ≡ map hash rows → numbers ≡ map (λ h. partition_of h n) hashes →
-    lists_by rows numbers n ≡ map (λ p. filter (in_partition hash n p) rows) (range_with_len 0 n)
+    lists_by rows numbers n ≡ rows_by_partition hash n rows
 partition_lists hash n rows hashes numbers hashed numbered =
-    let whole : numbers ≡ map (λ row. partition_of (hash row) n) rows = numbered ∙ ap (map (λ h. partition_of h n)) hashed ∙ map_same (λ h. partition_of h n) hash rows in
+    let whole : numbers ≡ map (λ row. partition_of (hash row) n) rows = numbered ∙ ap (map (λ h. partition_of h n)) hashed ∙ map-map (λ h. partition_of h n) hash rows in
     map_range_same (rows_of rows numbers) (λ p. filter (in_partition hash n p) rows) n [] (λ p lt. ap (λ ns. rows_of rows ns p) whole ∙ rows_by (λ row. partition_of (hash row) n) rows p)
 
 -- a part of the rows, in their order
@@ -133,41 +137,9 @@ rows_within n count hash hashes hashed within = recursion_from_All (λ i. partit
     let at : get_or hashes k 0 ≡ hash (get_or (rows_below count) k d) = ap (λ hs. get_or hs k 0) hashed ∙ get_or-map hash (rows_below count) k d 0 lt in
     rw (← at) (within k 0 place))
 
--- the hash of a row among those of all rows
-pub hash_of_row : (hash : ℕ → ℕ) (count : ℕ) (hashes : List ℕ) (row : ℕ) → hashes ≡ map hash (rows_below count) → row < count → get_or hashes row 0 ≡ hash row
-hash_of_row hash count hashes row hashed lt =
-    let inside : row < length (rows_below count) = omega (arith, length-range_with_len 0 count, lt) in
-    ap (λ hs. get_or hs row 0) hashed ∙ get_or-map hash (rows_below count) row 0 0 inside ∙ ap hash (get_or-range_with_len 0 count row 0 lt ∙ zero-add row)
-
 -- ---- the front and the back of some lists
 
-take_lists : (n : ℕ) (lists : List (SmallVec ℕ)) → lists_of (take n lists) ≡ take n (lists_of lists)
+pub take_lists : (n : ℕ) (lists : List (SmallVec ℕ)) → lists_of (take n lists) ≡ take n (lists_of lists)
 take_lists zero lists = refl
 take_lists (suc n) [] = refl
 take_lists (suc n) (list ∷ lists) = ap (λ ls. list.items ∷ ls) (take_lists n lists)
-
-module _ {count : ℕ} {row_hash : ℕ → ℕ} {hashes : List ℕ} (lists : List (SmallVec ℕ)) (listed : AreListed count row_hash hashes (lists_of lists)) (n : ℕ) where
-  pub listed_front : (front : List (SmallVec ℕ)) → front ≡ take n lists → AreListed count row_hash hashes (lists_of front)
-  listed_front front is = record {
-    few = listed.few;
-    members = rw (is, take_lists n lists) (All-take (AreMembers count) n (lists_of lists) listed.members);
-    hashed = listed.hashed;
-  }
-
-  pub listed_back : (back : List (SmallVec ℕ)) → back ≡ drop n lists → AreListed count row_hash hashes (lists_of back)
-  listed_back back is = record {
-    few = listed.few;
-    members = rw (is, ← drop-map (λ (list : SmallVec ℕ). list.items) n lists) (All-drop (AreMembers count) n (lists_of lists) listed.members);
-    hashed = listed.hashed;
-  }
-
--- what a function gives over two ranges that follow each other
-pub ranges_joined : (f : ℕ → ℕ) (a m n : ℕ) → map f (range_with_len a m) ++ map f (range_with_len (a + m) n) ≡ map f (range_with_len a (m + n))
-ranges_joined f a zero n =
-    let from : a + 0 ≡ a = omega arith in
-    let all : 0 + n ≡ n = omega arith in
-    rw (from, all)
-ranges_joined f a (suc m) n =
-    let from : a + suc m ≡ a + 1 + m = omega arith in
-    let all : suc m + n ≡ suc (m + n) = omega arith in
-    rw (from, all) (ap (λ xs. f a ∷ xs) (ranges_joined f (a + 1) m n))

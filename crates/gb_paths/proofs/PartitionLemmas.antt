@@ -4,12 +4,13 @@ use Rattle.std.specs.List.{flat_map, range_with_len, AllByRecursion}
 use Rattle.std.specs.List.Sorted.{IsNonDecreasing, IsNonDecreasingBy}
 use Rattle.std.proofs.lemmas.Bool.{cases_Bool}
 use Rattle.std.proofs.lemmas.Bool.Decides.{nat_tests}
+use Rattle.std.proofs.lemmas.Simd.{map-map}
 use Rattle.std.proofs.lemmas.List.{get_or-map, length-map, map-append}
 use Rattle.std.proofs.lemmas.List.Elements.{All-filter, All-from_recursion, recursion_from_All}
 use Rattle.std.proofs.lemmas.List.Sorted.{IsNonDecreasingBy-from_sort}
 use Rattle.smallvec.specs.SmallVec.{SmallVec}
 use Rattle.gb_defs.specs.Classes.{class, firsts, groups, is_first, rows_below}
-use Rattle.gb_defs.specs.Groups.{Grouping, Idx}
+use Rattle.gb_defs.specs.Groups.{Grouping, Idx, idx_groups}
 use Rattle.gb_defs.specs.Hash.{partition_of}
 use Rattle.gb_defs.specs.Partitions.{by_partition, in_partition, partition_groups}
 use Rattle.gb_defs.proofs.ClassesLemmas.{firsts_ascend}
@@ -17,6 +18,7 @@ use Rattle.gb_defs.proofs.PartitionLemmas.{partitions_united, picked_once}
 use Rattle.gb_groups.specs.Groups.{pairs_of}
 use Rattle.gb_groups.specs.Order.{first_of, IsByFirst}
 use Rattle.gb_groups.proofs.OnceLemmas.{once}
+use Rattle.gb_paths.specs.Partitions.{rows_by_partition}
 
 -- ---- united
 
@@ -33,18 +35,14 @@ flat_by f g (x ∷ xs) (y ∷ ys) e =
     let tail : map f xs ≡ map g ys = cc in
     rw (head, flat_by f g xs ys tail)
 
-map_two : {A : Type 0} (f : List ℕ → A) (g : ℕ → List ℕ) (xs : List ℕ) → map f (map g xs) ≡ map (λ x. f (g x)) xs
-map_two f g [] = refl
-map_two f g (x ∷ xs) = ap (λ ys. f (g x) ∷ ys) (map_two f g xs)
-
 module _ (agree : ℕ → ℕ → Bool) (hash : ℕ → ℕ) (n count : ℕ) where
   pub united : {V : Type 0} (items_of : V → List (ℕ × SmallVec ℕ)) (parts : List V) (lists : List (List ℕ)) → ((i j : ℕ) → i < count → j < count → agree i j ≡ true → hash i ≡ hash j) →
-      map (λ part. pairs_of (items_of part)) parts ≡ map (groups agree) lists → lists ≡ map (λ p. filter (in_partition hash n p) (rows_below count)) (range_with_len 0 n) →
+      map (λ part. pairs_of (items_of part)) parts ≡ map (groups agree) lists → lists ≡ rows_by_partition hash n (rows_below count) →
       pairs_of (flat_map items_of parts) ≡ partition_groups agree hash n (rows_below count)
   united items_of parts lists alike each split =
       map_flat _ items_of parts
       ∙ flat_by (λ part. pairs_of (items_of part)) (λ p. groups agree (filter (in_partition hash n p) (rows_below count))) parts (range_with_len 0 n)
-      (each ∙ ap (map (groups agree)) split ∙ map_two (groups agree) (λ p. filter (in_partition hash n p) (rows_below count)) (range_with_len 0 n))
+      (each ∙ ap (map (groups agree)) split ∙ map-map (groups agree) (λ p. filter (in_partition hash n p) (rows_below count)) (range_with_len 0 n))
       ∙ partitions_united agree hash n count alike
 
 -- ---- in the order of first rows
@@ -85,8 +83,8 @@ united_sorted agree hash n count after within sorted =
     ∙ sym (tied_pairs (class agree rows) pair.0 first))
 
 pub by_first_rows : (agree : ℕ → ℕ → Bool) (hash : ℕ → ℕ) (n count : ℕ) (before after : Grouping) → AllByRecursion (λ i. partition_of (hash i) n < n) (rows_below count) →
-    before ≡ record { pairs = partition_groups agree hash n (rows_below count); form = Idx; flagged = false } → IsByFirst before.pairs after.pairs → after.flagged ≡ true → after.form ≡ before.form →
-    after ≡ record { pairs = groups agree (rows_below count); form = Idx; flagged = true }
+    before ≡ idx_groups (partition_groups agree hash n (rows_below count)) false → IsByFirst before.pairs after.pairs → after.flagged ≡ true → after.form ≡ before.form →
+    after ≡ idx_groups (groups agree (rows_below count)) true
 by_first_rows agree hash n count before after within made sorted flagged form =
     let pairs = united_sorted agree hash n count after.pairs within (rw (ap (λ g. g.pairs) made) at sorted) in
     let form_is : after.form ≡ Idx = form ∙ ap (λ g. g.form) made in

@@ -1,5 +1,5 @@
 -- Groups in the order of their first rows, whatever the path.
-use Rattle.std.proofs.Common.{◌≡◌, ℕ, Bool, true, List, length, refl}
+use Rattle.std.proofs.Common.{◌≡◌, ℕ, Bool, true, length, refl}
 use Rattle.gb_defs.specs.Column.{ColumnValue}
 use Rattle.gb_defs.specs.Classes.{groups, rows_below, same_slot}
 use Rattle.gb_defs.specs.Rows.{Rows, same_slot_at}

@@ -1,18 +1,13 @@
 -- Rows by the numbers of their groups.
-use Rattle.std.specs.Prelude.{◌≡◌, ℕ, Bool, ◌<◌, ◌≤◌, ◌==◌, List, [], ◌∷◌, All, cond, map, count_by}
+use Rattle.std.specs.Prelude.{◌≡◌, ℕ, ◌≤◌, ◌==◌, List, [], ◌∷◌, cond, map, zip, length, count_by}
 use Rattle.std.specs.List.{range_with_len}
-use Rattle.std.specs.List.Sorted.{IsStrictlyIncreasing}
-use Rattle.gb_defs.specs.Slot.{Slot, slot_eq}
+use Rattle.gb_defs.specs.Classes.{groups}
+use Rattle.gb_defs.specs.Rows.{Rows, same_slot_at}
 use Rattle.smallvec.specs.SmallVec.{SmallVec}
 
--- rows with one slot
-abbrev pub same_slot_at : (ℕ → Slot) → ℕ → ℕ → Bool
-same_slot_at slot i j = slot_eq (slot i) (slot j)
-
--- some of the rows below n, ascending
-pub record AreMembers (n : ℕ) (rows : List ℕ) : Type 0 where
-  pub below : All (λ row. row < n) rows
-  pub ascend : IsStrictlyIncreasing rows
+-- the groups of some of the rows
+abbrev pub groups_among : Rows → List ℕ → List (ℕ × List ℕ)
+groups_among rows members = groups (same_slot_at rows.slot) members
 
 -- of rows that have a number each, those with number k
 unfoldable pub rows_of : List ℕ → List ℕ → ℕ → List ℕ
@@ -23,6 +18,10 @@ rows_of (row ∷ rows) (number ∷ numbers) k = cond (number == k) (row ∷ rows
 -- the rows of each group
 abbrev pub lists_by : List ℕ → List ℕ → ℕ → List (List ℕ)
 lists_by rows numbers groups = map (rows_of rows numbers) (range_with_len 0 groups)
+
+-- each group's first row, with the rows of its number
+abbrev pub pairs_by : List ℕ → List ℕ → List ℕ → List (ℕ × List ℕ)
+pairs_by rows numbers first = zip first (lists_by rows numbers (length first))
 
 -- how many rows have number k
 abbrev pub count_of : List ℕ → ℕ → ℕ

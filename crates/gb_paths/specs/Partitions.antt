@@ -1,20 +1,31 @@
 -- Rows and hashes by partitions.
-use Rattle.std.specs.Prelude.{◌≡◌, ℕ, ◌<◌, ◌^◌, List, All, Vec, map}
+use Rattle.std.specs.Prelude.{ℕ, ◌+◌, ◌<◌, ◌≤◌, ◌^◌, List, All, Vec, filter, length, map}
+use Rattle.std.specs.List.{range_with_len}
 use Rattle.smallvec.specs.SmallVec.{SmallVec}
-use Rattle.gb_defs.specs.Classes.{rows_below}
+use Rattle.gb_defs.specs.Groups.{AreMembers, HasRowNumbers}
 use Rattle.gb_defs.specs.Hash.{partition_of}
+use Rattle.gb_defs.specs.Partitions.{in_partition}
+use Rattle.gb_defs.specs.Rows.{Rows, AreHashes}
 use Rattle.gb_groups.specs.Groups.{pairs_of}
-use Rattle.gb_paths.specs.Numbers.{AreMembers}
+
+-- so many rows from `start` on are among the rows, whose numbers fit 64 bits
+pub record HasRows (rows : Rows) (start n : ℕ) : Type 0 where
+  pub within : start + n ≤ rows.count
+  pub fits : rows.count < 2 ^ 64
 
 -- the partition of each hash is one of the n
 abbrev pub AreWithin : ℕ → List ℕ → Type 0
 AreWithin n hashes = All (λ h. partition_of h n < n) hashes
 
--- lists of some of so many rows, and the hashes of all of these
-pub record AreListed (count : ℕ) (row_hash : ℕ → ℕ) (hashes : List ℕ) (lists : List (List ℕ)) : Type 0 where
-  pub few : count < 2 ^ 32
-  pub members : All (AreMembers count) lists
-  pub hashed : hashes ≡ map row_hash (rows_below count)
+-- the rows of each of n partitions
+abbrev pub rows_by_partition : (ℕ → ℕ) → ℕ → List ℕ → List (List ℕ)
+rows_by_partition hash n rows = map (λ p. filter (in_partition hash n p) rows) (range_with_len 0 n)
+
+-- lists of some of the rows that have these hashes, from row 0 on
+pub record AreListed (rows : Rows) (hashes : List ℕ) (lists : List (List ℕ)) : Type 0 where
+  pub few : HasRowNumbers rows.count
+  pub members : All (AreMembers (length hashes)) lists
+  pub hashed : AreHashes rows 0 hashes
 
 -- the groups of each part
 abbrev pub groups_of_parts : {A : Type 0} → List (Vec (ℕ × SmallVec ℕ) A) → List (List (ℕ × List ℕ))

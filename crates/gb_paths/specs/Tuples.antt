@@ -1,6 +1,5 @@
 -- The groups of a column's rows.
-use Rattle.std.specs.Prelude.{ℕ, ℤ, Bool, List, map}
-use Rattle.gb_defs.specs.Slot.{Slot, Num}
+use Rattle.std.specs.Prelude.{Bool}
 use Rattle.gb_defs.specs.Column.{ColumnValue}
 use Rattle.gb_defs.specs.Groups.{Grouping}
 use Rattle.gb_defs.specs.Hash.{hash_width, seed_mix}
@@ -11,6 +10,7 @@ use Rattle.gb_cols.specs.declared.pool.Pool.{Pool}
 use Rattle.gb_paths.specs.declared.path.Path.{Path}
 use Rattle.gb_paths.specs.declared.path.Path.TheVariants.{Table, Threaded}
 
+-- what a path stands for in the definitions
 abbrev pub path_value : Path → path.Path
 path_value Table = path.Table
 path_value Threaded = path.Threaded
@@ -27,7 +27,3 @@ column_rows column pool = rows_of_slots (hash_width column.dtype) (seed_of pool)
 abbrev pub tuples_of : ColumnValue → Bool → Bool → Pool → Grouping
 tuples_of column multithreaded sorted pool =
     path.path_groups (column_path column multithreaded pool) (column_rows column pool) (path.code_count column.dtype) (partitions_of pool) sorted
-
--- the slots of numbers in a list
-abbrev pub key_slots : {K : Type 0} → (K → ℤ) → List K → List Slot
-key_slots number keys = map (λ k. Num (number k)) keys

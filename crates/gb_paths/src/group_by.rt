@@ -1,14 +1,14 @@
 //! Groups of any rows that have keys, by one hash table.
 
-ghost use Rattle.std.specs.Prelude.{◌≡◌, ℕ, ◌+◌, ◌<◌, ◌≤◌, ◌^◌, IfOk, IfErr, OnOk};
-ghost use Rattle.gb_defs.specs.Classes.{groups, rows_below};
-ghost use Rattle.gb_defs.specs.Groups.{Idx};
+ghost use Rattle.std.specs.Prelude.{◌≡◌, ℕ, ◌+◌, ◌<◌, ◌≤◌, IfOk, IfErr, OnOk};
+ghost use Rattle.gb_defs.specs.Groups.{HasRowNumbers, IsWellFormed};
+ghost use Rattle.gb_defs.specs.Rows.{table_groups};
 ghost use Rattle.gb_cols.specs.PlSmallStr.{IsNoMemory};
 ghost use Rattle.gb_groups.specs.GroupsType.{groups_of};
-ghost use Rattle.gb_paths.specs.Numbers.{same_slot_at};
 
+use crate::all_rows::all_rows;
 use crate::row_groups::group_members;
-use crate::row_hashes::{all_rows, hash_rows};
+use crate::row_hashes::hash_rows;
 use gb_cols::error::PolarsResult;
 use gb_groups::groups_idx::GroupsIdx;
 use gb_groups::groups_type::GroupsType;
@@ -26,11 +26,12 @@ pub fn group_by<R: KeyRows, L: Ledger>(
     sorted: bool,
     steps: &mut Steps<L>,
 ) -> PolarsResult<GroupsType>
-    requires { R.row_count rows.now < 2 ^ 32 }
-    ensures ok { IfOk result (λ g. groups_of g ≡ record { pairs = groups (same_slot_at (R.slot rows.now)) (rows_below (R.row_count rows.now)); form = Idx; flagged = sorted }) }
+    requires { HasRowNumbers (R.rows rows.now).count }
+    ensures ok { IfOk result (λ g. groups_of g ≡ table_groups (R.rows rows.now) sorted) }
+    ensures formed { IfOk result (λ g. IsWellFormed (R.rows rows.now).count (groups_of g).pairs) }
     ensures err { IfErr result IsNoMemory }
-    ensures steps { OnOk result (steps.new ≡ steps.old + R.row_count rows.now) }
-    ensures steps_at_most { steps.new ≤ steps.old + R.row_count rows.now }
+    ensures steps { OnOk result (steps.new ≡ steps.old + (R.rows rows.now).count) }
+    ensures steps_at_most { steps.new ≤ steps.old + (R.rows rows.now).count }
 {
     let hashes = hash_rows(alloc, rows)?;
     let members = all_rows(alloc, rows.len())?;
@@ -48,8 +49,9 @@ fn group_blank<R: KeyRows, L: Ledger>(
     requires name { blank.name ≡ L.name }
     requires parts { blank.parts ≡ L.parts }
     requires some { 0 < L.parts }
-    requires few { R.row_count rows.now < 2 ^ 32 }
-    ensures ok { IfOk result (λ g. groups_of g ≡ record { pairs = groups (same_slot_at (R.slot rows.now)) (rows_below (R.row_count rows.now)); form = Idx; flagged = sorted }) }
+    requires few { HasRowNumbers (R.rows rows.now).count }
+    ensures ok { IfOk result (λ g. groups_of g ≡ table_groups (R.rows rows.now) sorted) }
+    ensures formed { IfOk result (λ g. IsWellFormed (R.rows rows.now).count (groups_of g).pairs) }
     ensures err { IfErr result IsNoMemory }
 {
     let mut steps: Steps<L> = Steps::new(blank);
@@ -62,9 +64,11 @@ pub fn group_uncounted<R: KeyRows>(
     rows: &R,
     sorted: bool,
 ) -> PolarsResult<GroupsType>
-    requires { R.row_count rows.now < 2 ^ 32 }
-    ensures ok { IfOk result (λ g. groups_of g ≡ record { pairs = groups (same_slot_at (R.slot rows.now)) (rows_below (R.row_count rows.now)); form = Idx; flagged = sorted }) }
+    requires { HasRowNumbers (R.rows rows.now).count }
+    ensures ok { IfOk result (λ g. groups_of g ≡ table_groups (R.rows rows.now) sorted) }
+    ensures formed { IfOk result (λ g. IsWellFormed (R.rows rows.now).count (groups_of g).pairs) }
     ensures err { IfErr result IsNoMemory }
 {
+    // The counter is for proofs alone and takes no memory: `Brand` is its name, and it is in one part.
     group_blank::<R, Brand>(alloc, rows, sorted, Blank::new(1))
 }

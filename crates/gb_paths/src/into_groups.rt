@@ -1,8 +1,9 @@
 //! The groups of a column's rows, by the path of its type and length.
 
-ghost use Rattle.std.specs.Prelude.{◌≡◌, ◌<◌, ◌^◌, length, IfOk, IfErr};
+ghost use Rattle.std.specs.Prelude.{◌≡◌, ◌<◌, length, IfOk, IfErr};
 ghost use Rattle.std.specs.Thread.{IsSync};
 ghost use Rattle.gb_defs.specs.Column.{ColumnValue};
+ghost use Rattle.gb_defs.specs.Groups.{HasRowNumbers, IsWellFormed};
 ghost use Rattle.gb_defs.specs.Path.{path_groups};
 ghost use Rattle.gb_cols.specs.PlSmallStr.{IsNoMemory};
 ghost use Rattle.gb_cols.specs.Pool.{partitions_of};
@@ -42,8 +43,11 @@ pub trait IntoGroupsType {
         pool: &Pool,
     ) -> PolarsResult<GroupsType>
         requires row_type { IsSync T.row }
-        requires few { length (column self.now).slots < 2 ^ 32 }
-        ensures ok { IfOk result (λ g. groups_of g ≡ tuples_of (column self.now) multithreaded sorted pool.now) }
+        requires few { HasRowNumbers (length (column self.now).slots) }
+        ensures ok { IfOk result (λ g.
+            groups_of g ≡ tuples_of (column self.now) multithreaded sorted pool.now) }
+        ensures formed { IfOk result (λ g.
+            IsWellFormed (length (column self.now).slots) (groups_of g).pairs) }
         ensures err { IfErr result IsNoMemory };
 }
 
@@ -56,9 +60,11 @@ pub fn group_tuples_gated<T: Threads + Sync, G: Gate + Sync>(
     pool: &Pool,
     gate: &G,
 ) -> PolarsResult<GroupsType>
-    requires row_type { IsSync T.row }
-    requires few { length (value_of key.now).slots < 2 ^ 32 }
-    ensures ok { IfOk result (λ g. groups_of g ≡ tuples_of (value_of key.now) multithreaded sorted pool.now) }
+    requires few { HasRowNumbers (length (value_of key.now).slots) }
+    ensures ok { IfOk result (λ g.
+        groups_of g ≡ tuples_of (value_of key.now) multithreaded sorted pool.now) }
+    ensures formed { IfOk result (λ g.
+        IsWellFormed (length (value_of key.now).slots) (groups_of g).pairs) }
     ensures err { IfErr result IsNoMemory }
 {
     match key {
@@ -78,9 +84,10 @@ fn group_rows<T: Threads + Sync, R: KeyRows, G: Gate + Sync>(
     pool: &Pool,
     gate: &G,
 ) -> PolarsResult<GroupsType>
-    requires row_type { IsSync T.row }
-    requires few { R.row_count rows.now < 2 ^ 32 }
-    ensures ok { IfOk result (λ g. groups_of g ≡ path_groups (path_value path) (record { count = R.row_count rows.now; slot = R.slot rows.now; hash = R.row_hash rows.now }) 0 (partitions_of pool.now) sorted) }
+    requires few { HasRowNumbers (R.rows rows.now).count }
+    ensures ok { IfOk result (λ g. groups_of g
+        ≡ path_groups (path_value path) (R.rows rows.now) 0 (partitions_of pool.now) sorted) }
+    ensures formed { IfOk result (λ g. IsWellFormed (R.rows rows.now).count (groups_of g).pairs) }
     ensures err { IfErr result IsNoMemory }
 {
     match path {
@@ -103,9 +110,11 @@ fn group_int64<T: Threads + Sync, G: Gate + Sync>(
     pool: &Pool,
     gate: &G,
 ) -> PolarsResult<GroupsType>
-    requires row_type { IsSync T.row }
-    requires few { length column.now.slots < 2 ^ 32 }
-    ensures ok { IfOk result (λ g. groups_of g ≡ tuples_of column.now multithreaded sorted pool.now) }
+    requires few { HasRowNumbers (length column.now.slots) }
+    ensures ok { IfOk result (λ g.
+        groups_of g ≡ tuples_of column.now multithreaded sorted pool.now) }
+    ensures formed { IfOk result (λ g.
+        IsWellFormed (length column.now.slots) (groups_of g).pairs) }
     ensures err { IfErr result IsNoMemory }
 {
     let rows = NumRows::new(column, SeedMixer::new(pool.seed()));
@@ -122,9 +131,11 @@ fn group_uint32<T: Threads + Sync, G: Gate + Sync>(
     pool: &Pool,
     gate: &G,
 ) -> PolarsResult<GroupsType>
-    requires row_type { IsSync T.row }
-    requires few { length column.now.slots < 2 ^ 32 }
-    ensures ok { IfOk result (λ g. groups_of g ≡ tuples_of column.now multithreaded sorted pool.now) }
+    requires few { HasRowNumbers (length column.now.slots) }
+    ensures ok { IfOk result (λ g.
+        groups_of g ≡ tuples_of column.now multithreaded sorted pool.now) }
+    ensures formed { IfOk result (λ g.
+        IsWellFormed (length column.now.slots) (groups_of g).pairs) }
     ensures err { IfErr result IsNoMemory }
 {
     let rows = NumRows::new(column, SeedMixer::new(pool.seed()));
@@ -141,9 +152,11 @@ fn group_texts<T: Threads + Sync, G: Gate + Sync>(
     pool: &Pool,
     gate: &G,
 ) -> PolarsResult<GroupsType>
-    requires row_type { IsSync T.row }
-    requires few { length column.now.slots < 2 ^ 32 }
-    ensures ok { IfOk result (λ g. groups_of g ≡ tuples_of column.now multithreaded sorted pool.now) }
+    requires few { HasRowNumbers (length column.now.slots) }
+    ensures ok { IfOk result (λ g.
+        groups_of g ≡ tuples_of column.now multithreaded sorted pool.now) }
+    ensures formed { IfOk result (λ g.
+        IsWellFormed (length column.now.slots) (groups_of g).pairs) }
     ensures err { IfErr result IsNoMemory }
 {
     let rows = ByteRows::new(column, SeedMixer::new(pool.seed()));

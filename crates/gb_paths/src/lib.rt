@@ -3,14 +3,15 @@
 //! the order of their first rows, and partitions in their own order where no other is asked for.
 #![tactic(auto)]
 
+mod all_rows;
 pub mod group_by;
+mod group_numbers;
 pub mod into_groups;
 mod partitions;
 mod path;
 mod row_groups;
 mod row_hashes;
 mod row_lists;
-mod row_numbers;
 #[cfg(test)]
 mod tests;
 pub mod threaded;

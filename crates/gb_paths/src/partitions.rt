@@ -1,16 +1,15 @@
 //! The rows of each partition.
 
-ghost use Rattle.std.specs.Prelude.{◌≡◌, ℕ, ◌<◌, ◌≤◌, ◌^◌, All, map, filter, length, IfOk, IfErr, OnOk};
-ghost use Rattle.std.specs.List.{range_with_len};
+ghost use Rattle.std.specs.Prelude.{◌≡◌, ◌<◌, ◌≤◌, ◌^◌, All, map, length, IfOk, IfErr, OnOk};
 ghost use Rattle.gb_defs.specs.Classes.{rows_below};
+ghost use Rattle.gb_defs.specs.Groups.{AreMembers, HasRowNumbers};
 ghost use Rattle.gb_defs.specs.Hash.{partition_of};
-ghost use Rattle.gb_defs.specs.Partitions.{in_partition};
+ghost use Rattle.gb_defs.specs.Rows.{Rows, AreHashes};
 ghost use Rattle.gb_cols.specs.PlSmallStr.{IsNoMemory};
 ghost use Rattle.gb_groups.specs.Groups.{lists_of};
-ghost use Rattle.gb_paths.specs.Numbers.{AreMembers};
-ghost use Rattle.gb_paths.specs.Partitions.{AreWithin};
+ghost use Rattle.gb_paths.specs.Partitions.{AreWithin, rows_by_partition};
 
-use crate::row_hashes::all_rows;
+use crate::all_rows::all_rows;
 use crate::row_lists::row_lists;
 use gb_cols::error::{PolarsError, PolarsResult};
 use gb_groups::groups_idx::IdxVec;
@@ -24,10 +23,12 @@ pub fn partition_rows(
     n_partitions: usize,
 ) -> PolarsResult<Vec<IdxVec>>
     requires some { 1 ≤ n_partitions }
-    requires few { length hashes.now < 2 ^ 32 }
-    ensures rows { IfOk result (λ lists. (hash : ℕ → ℕ) → hashes.now ≡ map hash (rows_below (length hashes.now))
-        → lists_of lists.items ≡ map (λ p. filter (in_partition hash n_partitions p) (rows_below (length hashes.now))) (range_with_len 0 n_partitions)) }
-    ensures members { IfOk result (λ lists. All (AreMembers (length hashes.now)) (lists_of lists.items)) }
+    requires few { HasRowNumbers (length hashes.now) }
+    ensures rows { IfOk result (λ lists. (r : Rows) → AreHashes r 0 hashes.now
+        → lists_of lists.items
+        ≡ rows_by_partition r.hash n_partitions (rows_below (length hashes.now))) }
+    ensures members { IfOk result (λ lists.
+        All (AreMembers (length hashes.now)) (lists_of lists.items)) }
     ensures within { OnOk result (AreWithin n_partitions hashes.now) }
     ensures err { IfErr result IsNoMemory }
 {
@@ -44,7 +45,8 @@ pub fn partition_rows(
 fn partition_numbers(alloc: Global, hashes: &[u64], n: usize) -> Result<Vec<u32>, AllocError>
     requires some { 1 ≤ n }
     requires few { n < 2 ^ 32 }
-    ensures numbers { IfOk result (λ numbers. numbers.items ≡ map (λ h. partition_of h n) hashes.now) }
+    ensures numbers { IfOk result (λ numbers.
+        numbers.items ≡ map (λ h. partition_of h n) hashes.now) }
     ensures below { IfOk result (λ numbers. All (λ number. number < n) numbers.items) }
 {
     let mut numbers = Vec::with_capacity(alloc, hashes.len())?;

@@ -19,7 +19,9 @@ pub enum Path {
 /// The path of so many keys of bytes, or of numbers: to start threads pays at many rows, or where keys
 /// are long.
 pub fn choose_path(by_bytes: bool, rows: usize, multithreaded: bool, pool: &Pool) -> Path
-    ensures { path_value result ≡ hashed_path by_bytes rows multithreaded (workers_of pool.now) (threshold_of pool.now) }
+    ensures { let workers = workers_of pool.now in
+        let threshold = threshold_of pool.now in
+        path_value result ≡ hashed_path by_bytes rows multithreaded workers threshold }
 {
     if multithreaded && pool.workers() > 1 && (by_bytes || rows > pool.row_threshold()) {
         Path::Threaded

@@ -1,12 +1,10 @@
 //! The hash of each row, taken once.
 
-ghost use Rattle.std.specs.Prelude.{◌≡◌, ℕ, ◌+◌, ◌<◌, ◌≤◌, ◌^◌, map, IfErr, IfOk, length};
-ghost use Rattle.std.specs.List.{range_with_len};
-ghost use Rattle.std.specs.Thread.{IsSync};
-ghost use Rattle.gb_defs.specs.Classes.{rows_below};
+ghost use Rattle.std.specs.Prelude.{◌≡◌, IfErr, IfOk, length};
+ghost use Rattle.gb_defs.specs.Rows.{AreHashes};
 ghost use Rattle.gb_cols.specs.PlSmallStr.{IsNoMemory};
 ghost use Rattle.gb_flat.specs.Shares.{DealsOut};
-ghost use Rattle.gb_paths.specs.Numbers.{AreMembers};
+ghost use Rattle.gb_paths.specs.Partitions.{HasRows};
 
 use gb_cols::error::PolarsResult;
 use gb_cols::pool::Pool;
@@ -15,12 +13,14 @@ use gb_hash::key_rows::KeyRows;
 use std::alloc::{AllocError, Global};
 use std::thread::{Threads, join_mut};
 
-// Below so many rows to start a thread takes longer than to hash them.
+// Below so many rows no thread is started. It is a guess at the rows that are hashed in the time that a
+// thread takes to start: about 15 microseconds, at 2 nanoseconds a row.
 const FEW_ROWS: usize = 8192;
 
 /// The hash of each row.
 pub fn hash_rows<R: KeyRows>(alloc: Global, rows: &R) -> Result<Vec<u64>, AllocError>
-    ensures { IfOk result (λ hashes. hashes.items ≡ map (R.row_hash rows.now) (rows_below (R.row_count rows.now))) }
+    ensures hashes { IfOk result (λ hashes. AreHashes (R.rows rows.now) 0 hashes.items) }
+    ensures all { IfOk result (λ hashes. length hashes.items ≡ (R.rows rows.now).count) }
 {
     let count = rows.len();
     let mut hashes = Vec::with_capacity(alloc, count)?;
@@ -37,8 +37,8 @@ pub fn hash_rows_par<T: Threads + Sync, R: KeyRows>(
     rows: &R,
     pool: &Pool,
 ) -> PolarsResult<Vec<u64>>
-    requires row_type { IsSync T.row }
-    ensures ok { IfOk result (λ hashes. hashes.items ≡ map (R.row_hash rows.now) (rows_below (R.row_count rows.now))) }
+    ensures hashes { IfOk result (λ hashes. AreHashes (R.rows rows.now) 0 hashes.items) }
+    ensures all { IfOk result (λ hashes. length hashes.items ≡ (R.rows rows.now).count) }
     ensures err { IfErr result IsNoMemory }
 {
     let count = rows.len();
@@ -62,11 +62,9 @@ fn hash_shares<T: Threads + Sync, R: KeyRows>(
     shares: &[(usize, usize)],
     room: &mut [u64],
 )
-    requires row_type { IsSync T.row }
     requires dealt { DealsOut shares.now (length room.old) }
-    requires fits { R.row_count rows.now < 2 ^ 64 }
-    requires inside { start + length room.old ≤ R.row_count rows.now }
-    ensures { room.new ≡ map (R.row_hash rows.now) (range_with_len start (length room.old)) }
+    requires inside { HasRows (R.rows rows.now) start (length room.old) }
+    ensures { AreHashes (R.rows rows.now) start room.new }
 {
     let Some((share, later)) = shares.split_first() else {
         fill_hashes(rows, start, room);
@@ -80,7 +78,7 @@ fn hash_shares<T: Threads + Sync, R: KeyRows>(
     hash_both(rt, rows, start, start + share.1, later, front, back);
 }
 
-// The hashes of one share, and of the later ones in another thread.
+// The hashes of one share in another thread, and meanwhile those of the later ones.
 #[cycle(shares)]
 fn hash_both<T: Threads + Sync, R: KeyRows>(
     rt: &T,
@@ -91,47 +89,32 @@ fn hash_both<T: Threads + Sync, R: KeyRows>(
     front: &mut [u64],
     back: &mut [u64],
 )
-    requires row_type { IsSync T.row }
     requires dealt { DealsOut later.now (length back.old) }
-    requires fits { R.row_count rows.now < 2 ^ 64 }
-    requires front_inside { start + length front.old ≤ R.row_count rows.now }
-    requires back_inside { next + length back.old ≤ R.row_count rows.now }
-    ensures front { front.new ≡ map (R.row_hash rows.now) (range_with_len start (length front.old)) }
-    ensures back { back.new ≡ map (R.row_hash rows.now) (range_with_len next (length back.old)) }
+    requires front { HasRows (R.rows rows.now) start (length front.old) }
+    requires back { HasRows (R.rows rows.now) next (length back.old) }
+    ensures front { AreHashes (R.rows rows.now) start front.new }
+    ensures back { AreHashes (R.rows rows.now) next back.new }
 {
     join_mut(
         rt,
         &mut ||
-            requires { (R.row_count rows.now < 2 ^ 64) × (start + length front.now ≤ R.row_count rows.now) }
-            ensures { front.exit.now ≡ map (R.row_hash rows.entry.now) (range_with_len start (length front.entry.now)) }
+            requires { HasRows (R.rows rows.now) start (length front.now) }
+            ensures { AreHashes (R.rows rows.entry.now) start front.exit.now }
         { fill_hashes(rows, start, front) },
         &mut ||
-            requires { IsSync T.row × DealsOut later.now (length back.now) × (R.row_count rows.now < 2 ^ 64) × (next + length back.now ≤ R.row_count rows.now) }
-            ensures { back.exit.now ≡ map (R.row_hash rows.entry.now) (range_with_len next (length back.entry.now)) }
+            requires { DealsOut later.now (length back.now)
+                × HasRows (R.rows rows.now) next (length back.now) }
+            ensures { AreHashes (R.rows rows.entry.now) next back.exit.now }
         { hash_shares(rt, rows, next, later, back) },
     );
 }
 
 // The same by one worker.
 fn fill_hashes<R: KeyRows>(rows: &R, start: usize, room: &mut [u64])
-    requires fits { R.row_count rows.now < 2 ^ 64 }
-    requires inside { start + length room.old ≤ R.row_count rows.now }
-    ensures { room.new ≡ map (R.row_hash rows.now) (range_with_len start (length room.old)) }
+    requires inside { HasRows (R.rows rows.now) start (length room.old) }
+    ensures { AreHashes (R.rows rows.now) start room.new }
 {
     for place in 0..room.len() {
         room[place] = rows.hash_at(start + place);
     }
-}
-
-/// All rows of so many.
-pub fn all_rows(alloc: Global, count: usize) -> Result<Vec<u32>, AllocError>
-    requires { count < 2 ^ 32 }
-    ensures all { IfOk result (λ rows. rows.items ≡ rows_below count) }
-    ensures members { IfOk result (λ rows. AreMembers count rows.items) }
-{
-    let mut rows = Vec::with_capacity(alloc, count)?;
-    for row in 0..count {
-        rows.push_reserved(row as u32);
-    }
-    Ok(rows)
 }

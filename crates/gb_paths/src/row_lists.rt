@@ -1,10 +1,11 @@
-//! The rows of each group, from the number of each row. Each list is made with its exact room.
+//! The rows of each group, from the number of each row's group. Each list is made with its exact room.
 
 ghost use Rattle.std.specs.Prelude.{◌≡◌, ℕ, ◌<◌, ◌^◌, length, IfOk, slice_index};
 ghost use Rattle.std.specs.List.{All, AllZip};
 ghost use Rattle.gb_groups.specs.Groups.{lists_of};
 ghost use Rattle.gb_paths.specs.Numbers.{lists_by, counts_by, IsRoomFor};
 
+use gb_cols::nullable_idx::IdxSize;
 use gb_groups::groups_idx::IdxVec;
 use smallvec::SmallVec;
 use std::alloc::{AllocError, Global};
@@ -12,7 +13,7 @@ use std::alloc::{AllocError, Global};
 /// The rows of each group, in their order.
 pub fn row_lists(
     alloc: Global,
-    rows: &[u32],
+    rows: &[IdxSize],
     numbers: &[u32],
     groups: usize,
 ) -> Result<Vec<IdxVec>, AllocError>
@@ -28,18 +29,18 @@ pub fn row_lists(
 }
 
 // How many rows each group has.
-fn row_counts(alloc: Global, numbers: &[u32], groups: usize) -> Result<Vec<u32>, AllocError>
+fn row_counts(alloc: Global, numbers: &[u32], groups: usize) -> Result<Vec<IdxSize>, AllocError>
     requires few { length numbers.now < 2 ^ 32 }
     requires known { All (λ number. number < groups) numbers.now }
     ensures { IfOk result (λ counts. counts.items ≡ counts_by numbers.now groups) }
 {
-    let mut counts = vec![in alloc; 0u32; groups]?;
+    let mut counts = vec![in alloc; 0 as IdxSize; groups]?;
     count_rows(counts.as_mut_slice(), numbers);
     Ok(counts)
 }
 
 // Adds one to a group's count for each of its rows.
-fn count_rows(counts: &mut [u32], numbers: &[u32])
+fn count_rows(counts: &mut [IdxSize], numbers: &[u32])
     requires few { length numbers.now < 2 ^ 32 }
     requires known { All (λ number. number < length counts.old) numbers.now }
     requires zero { (k : ℕ) → slice_index counts.old k ≡ 0 }
@@ -51,7 +52,7 @@ fn count_rows(counts: &mut [u32], numbers: &[u32])
 }
 
 // A list for each count, empty.
-fn empty_lists(alloc: Global, counts: &[u32]) -> Result<Vec<IdxVec>, AllocError>
+fn empty_lists(alloc: Global, counts: &[IdxSize]) -> Result<Vec<IdxVec>, AllocError>
     ensures { IfOk result (λ lists. AllZip IsRoomFor counts.now lists.items) }
 {
     let mut lists = Vec::with_capacity(alloc, counts.len())?;
@@ -62,7 +63,7 @@ fn empty_lists(alloc: Global, counts: &[u32]) -> Result<Vec<IdxVec>, AllocError>
 }
 
 // Puts each row into the list of its group.
-fn fill_lists(lists: &mut [IdxVec], rows: &[u32], numbers: &[u32])
+fn fill_lists(lists: &mut [IdxVec], rows: &[IdxSize], numbers: &[u32])
     requires each { length numbers.now ≡ length rows.now }
     requires known { All (λ number. number < length lists.old) numbers.now }
     requires room { AllZip IsRoomFor (counts_by numbers.now (length lists.old)) lists.old }

@@ -1,26 +1,23 @@
 //! Groups by a table for each partition of the hashes. The partitions are dealt to the workers, each of
 //! which takes its own one after another.
 
-ghost use Rattle.std.specs.Prelude.{◌≡◌, ℕ, ◌<◌, ◌≤◌, ◌^◌, All, map, length, IfOk, IfErr};
-ghost use Rattle.std.specs.Thread.{IsSync};
-ghost use Rattle.gb_defs.specs.Classes.{groups, rows_below, same_slot};
-ghost use Rattle.gb_defs.specs.Hash.{hash_of};
-ghost use Rattle.gb_defs.specs.Slot.{slot_at};
-ghost use Rattle.gb_defs.specs.Groups.{Idx};
-ghost use Rattle.gb_defs.specs.Partitions.{threaded_groups};
+ghost use Rattle.std.specs.Prelude.{◌≡◌, ℕ, ◌<◌, ◌≤◌, map, length, IfOk, IfErr};
+ghost use Rattle.gb_defs.specs.Groups.{AreMembers, HasRowNumbers, IsWellFormed};
+ghost use Rattle.gb_defs.specs.Rows.{AreHashes, hashed_groups, rows_of_slots};
 ghost use Rattle.gb_cols.specs.PlSmallStr.{IsNoMemory};
 ghost use Rattle.gb_flat.specs.Shares.{DealsOut};
 ghost use Rattle.gb_groups.specs.Groups.{lists_of, pairs_of};
 ghost use Rattle.gb_groups.specs.GroupsType.{groups_of};
-ghost use Rattle.gb_paths.specs.Numbers.{AreMembers, same_slot_at};
+ghost use Rattle.gb_hash.specs.Keys.{key_slots};
+ghost use Rattle.gb_paths.specs.Numbers.{groups_among};
 ghost use Rattle.gb_paths.specs.Partitions.{AreListed, groups_of_parts};
-ghost use Rattle.gb_paths.specs.Tuples.{key_slots};
 
 use crate::partitions::partition_rows;
 use crate::row_groups::group_members;
 use crate::row_hashes::hash_rows_par;
 use gb_cols::device::Gate;
 use gb_cols::error::PolarsResult;
+use gb_cols::nullable_idx::IdxSize;
 use gb_cols::pool::Pool;
 use gb_flat::offsets::split_offsets;
 use gb_groups::groups_idx::{GroupsIdx, IdxItem, IdxVec};
@@ -47,10 +44,11 @@ pub fn group_by_threaded_iter<T: Threads + Sync, R: KeyRows, G: Gate + Sync>(
     pool: &Pool,
     gate: &G,
 ) -> PolarsResult<GroupsType>
-    requires row_type { IsSync T.row }
-    requires few { R.row_count rows.now < 2 ^ 32 }
+    requires few { HasRowNumbers (R.rows rows.now).count }
     requires some { 1 ≤ n_partitions }
-    ensures ok { IfOk result (λ g. groups_of g ≡ record { pairs = threaded_groups (same_slot_at (R.slot rows.now)) (R.row_hash rows.now) n_partitions sorted (rows_below (R.row_count rows.now)); form = Idx; flagged = sorted }) }
+    ensures ok { IfOk result (λ g.
+        groups_of g ≡ hashed_groups (R.rows rows.now) n_partitions sorted) }
+    ensures formed { IfOk result (λ g. IsWellFormed (R.rows rows.now).count (groups_of g).pairs) }
     ensures err { IfErr result IsNoMemory }
 {
     let hashes = hash_rows_par(rt, alloc, rows, pool)?;
@@ -79,10 +77,12 @@ pub fn group_by_threaded_slice<
     pool: &Pool,
     gate: &G,
 ) -> PolarsResult<GroupsType>
-    requires row_type { IsSync T.row }
-    requires few { length keys.now < 2 ^ 32 }
+    requires few { HasRowNumbers (length keys.now) }
     requires some { 1 ≤ n_partitions }
-    ensures ok { IfOk result (λ g. groups_of g ≡ record { pairs = threaded_groups (same_slot (key_slots K.number keys.now)) (λ i. hash_of K.width (M.seed_of mixer) (M.mix_of mixer) (slot_at (key_slots K.number keys.now) i)) n_partitions sorted (rows_below (length keys.now)); form = Idx; flagged = sorted }) }
+    ensures ok { let slots = key_slots K.number keys.now in
+        let rows = rows_of_slots K.width (M.seed_of mixer) (M.mix_of mixer) slots in
+        IfOk result (λ g. groups_of g ≡ hashed_groups rows n_partitions sorted) }
+    ensures formed { IfOk result (λ g. IsWellFormed (length keys.now) (groups_of g).pairs) }
     ensures err { IfErr result IsNoMemory }
 {
     let rows = SliceRows::new(keys, mixer);
@@ -100,9 +100,9 @@ fn deal_partitions<T: Threads + Sync, R: KeyRows, G: Gate + Sync>(
     pool: &Pool,
     gate: &G,
 ) -> PolarsResult<Vec<Vec<IdxItem>>>
-    requires row_type { IsSync T.row }
-    requires listed { AreListed (R.row_count rows.now) (R.row_hash rows.now) hashes.now (lists_of members.now) }
-    ensures ok { IfOk result (λ parts. groups_of_parts parts.items ≡ map (groups (same_slot_at (R.slot rows.now))) (lists_of members.now)) }
+    requires listed { AreListed (R.rows rows.now) hashes.now (lists_of members.now) }
+    ensures ok { IfOk result (λ parts. groups_of_parts parts.items
+        ≡ map (groups_among (R.rows rows.now)) (lists_of members.now)) }
     ensures err { IfErr result IsNoMemory }
 {
     let workers = pool.workers().min(members.len());
@@ -125,10 +125,10 @@ fn group_shares<T: Threads + Sync, R: KeyRows, G: Gate + Sync>(
     shares: &[(usize, usize)],
     gate: &G,
 ) -> PolarsResult<Vec<Vec<IdxItem>>>
-    requires row_type { IsSync T.row }
-    requires listed { AreListed (R.row_count rows.now) (R.row_hash rows.now) hashes.now (lists_of members.now) }
+    requires listed { AreListed (R.rows rows.now) hashes.now (lists_of members.now) }
     requires dealt { DealsOut shares.now (length members.now) }
-    ensures ok { IfOk result (λ parts. groups_of_parts parts.items ≡ map (groups (same_slot_at (R.slot rows.now))) (lists_of members.now)) }
+    ensures ok { IfOk result (λ parts. groups_of_parts parts.items
+        ≡ map (groups_among (R.rows rows.now)) (lists_of members.now)) }
     ensures err { IfErr result IsNoMemory }
 {
     let Some((share, later)) = shares.split_first() else {
@@ -147,7 +147,7 @@ fn group_shares<T: Threads + Sync, R: KeyRows, G: Gate + Sync>(
     Ok(parts)
 }
 
-// One share, and the later ones in another thread.
+// One share in another thread, and meanwhile the later ones.
 #[cycle(shares)]
 fn group_both<T: Threads + Sync, R: KeyRows, G: Gate + Sync>(
     rt: &T,
@@ -164,24 +164,30 @@ fn group_both<T: Threads + Sync, R: KeyRows, G: Gate + Sync>(
     PolarsResult<Vec<Vec<IdxItem>>>,
     PolarsResult<Vec<Vec<IdxItem>>>,
 )
-    requires row_type { IsSync T.row }
-    requires mine { AreListed (R.row_count rows.now) (R.row_hash rows.now) hashes.now (lists_of mine.now) }
-    requires others { AreListed (R.row_count rows.now) (R.row_hash rows.now) hashes.now (lists_of others.now) }
+    requires mine { AreListed (R.rows rows.now) hashes.now (lists_of mine.now) }
+    requires others { AreListed (R.rows rows.now) hashes.now (lists_of others.now) }
     requires dealt { DealsOut later.now (length others.now) }
-    ensures mine { IfOk result.0 (λ parts. groups_of_parts parts.items ≡ map (groups (same_slot_at (R.slot rows.now))) (lists_of mine.now)) }
-    ensures others { IfOk result.1 (λ parts. groups_of_parts parts.items ≡ map (groups (same_slot_at (R.slot rows.now))) (lists_of others.now)) }
+    ensures mine { IfOk result.0 (λ parts. groups_of_parts parts.items
+        ≡ map (groups_among (R.rows rows.now)) (lists_of mine.now)) }
+    ensures others { IfOk result.1 (λ parts. groups_of_parts parts.items
+        ≡ map (groups_among (R.rows rows.now)) (lists_of others.now)) }
     ensures mine_err { IfErr result.0 IsNoMemory }
     ensures others_err { IfErr result.1 IsNoMemory }
 {
     join(
         rt,
         ||
-            requires { AreListed (R.row_count rows.now) (R.row_hash rows.now) hashes.now (lists_of mine.now) }
-            ensures { IfOk result (λ parts. groups_of_parts parts.items ≡ map (groups (same_slot_at (R.slot rows.entry.now))) (lists_of mine.entry.now)) × IfErr result IsNoMemory }
+            requires { AreListed (R.rows rows.now) hashes.now (lists_of mine.now) }
+            ensures { IfOk result (λ parts. groups_of_parts parts.items
+                ≡ map (groups_among (R.rows rows.entry.now)) (lists_of mine.entry.now))
+                × IfErr result IsNoMemory }
         { group_partitions(alloc, rows, mine, hashes, start, gate) },
         ||
-            requires { IsSync T.row × AreListed (R.row_count rows.now) (R.row_hash rows.now) hashes.now (lists_of others.now) × DealsOut later.now (length others.now) }
-            ensures { IfOk result (λ parts. groups_of_parts parts.items ≡ map (groups (same_slot_at (R.slot rows.entry.now))) (lists_of others.entry.now)) × IfErr result IsNoMemory }
+            requires { AreListed (R.rows rows.now) hashes.now (lists_of others.now)
+                × DealsOut later.now (length others.now) }
+            ensures { IfOk result (λ parts. groups_of_parts parts.items
+                ≡ map (groups_among (R.rows rows.entry.now)) (lists_of others.entry.now))
+                × IfErr result IsNoMemory }
         { group_shares(rt, alloc, rows, others, hashes, next, later, gate) },
     )
 }
@@ -195,8 +201,9 @@ fn group_partitions<R: KeyRows, G: Gate>(
     start: usize,
     gate: &G,
 ) -> PolarsResult<Vec<Vec<IdxItem>>>
-    requires listed { AreListed (R.row_count rows.now) (R.row_hash rows.now) hashes.now (lists_of members.now) }
-    ensures ok { IfOk result (λ parts. groups_of_parts parts.items ≡ map (groups (same_slot_at (R.slot rows.now))) (lists_of members.now)) }
+    requires listed { AreListed (R.rows rows.now) hashes.now (lists_of members.now) }
+    ensures ok { IfOk result (λ parts. groups_of_parts parts.items
+        ≡ map (groups_among (R.rows rows.now)) (lists_of members.now)) }
     ensures err { IfErr result IsNoMemory }
 {
     let mut parts = Vec::with_capacity(alloc, members.len())?;
@@ -211,18 +218,20 @@ fn group_partitions<R: KeyRows, G: Gate>(
 fn enter_partition<R: KeyRows, G: Gate>(
     alloc: Global,
     rows: &R,
-    members: &[u32],
+    members: &[IdxSize],
     hashes: &[u64],
     partition: u64,
     gate: &G,
 ) -> PolarsResult<Vec<IdxItem>>
-    requires few { R.row_count rows.now < 2 ^ 32 }
-    requires members { AreMembers (R.row_count rows.now) members.now }
-    requires hashes { hashes.now ≡ map (R.row_hash rows.now) (rows_below (R.row_count rows.now)) }
-    ensures ok { IfOk result (λ items. pairs_of items.items ≡ groups (same_slot_at (R.slot rows.now)) members.now) }
+    requires few { HasRowNumbers (R.rows rows.now).count }
+    requires members { AreMembers (length hashes.now) members.now }
+    requires hashes { AreHashes (R.rows rows.now) 0 hashes.now }
+    ensures ok { IfOk result (λ items.
+        pairs_of items.items ≡ groups_among (R.rows rows.now) members.now) }
     ensures err { IfErr result IsNoMemory }
 {
     gate.enter(partition);
+    // The counter is for proofs alone and takes no memory: `Brand` is its name, and it is in one part.
     let groups = group_partition::<R, Brand>(alloc, rows, members, hashes, Blank::new(1));
     gate.leave(partition);
     groups
@@ -232,17 +241,18 @@ fn enter_partition<R: KeyRows, G: Gate>(
 fn group_partition<R: KeyRows, L: Ledger>(
     alloc: Global,
     rows: &R,
-    members: &[u32],
+    members: &[IdxSize],
     hashes: &[u64],
     blank: Blank,
 ) -> PolarsResult<Vec<IdxItem>>
     requires name { blank.name ≡ L.name }
     requires parts { blank.parts ≡ L.parts }
     requires some { 0 < L.parts }
-    requires few { R.row_count rows.now < 2 ^ 32 }
-    requires members { AreMembers (R.row_count rows.now) members.now }
-    requires hashes { hashes.now ≡ map (R.row_hash rows.now) (rows_below (R.row_count rows.now)) }
-    ensures ok { IfOk result (λ items. pairs_of items.items ≡ groups (same_slot_at (R.slot rows.now)) members.now) }
+    requires few { HasRowNumbers (R.rows rows.now).count }
+    requires members { AreMembers (length hashes.now) members.now }
+    requires hashes { AreHashes (R.rows rows.now) 0 hashes.now }
+    ensures ok { IfOk result (λ items.
+        pairs_of items.items ≡ groups_among (R.rows rows.now) members.now) }
     ensures err { IfErr result IsNoMemory }
 {
     let mut steps: Steps<L> = Steps::new(blank);

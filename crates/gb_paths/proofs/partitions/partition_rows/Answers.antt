@@ -13,10 +13,10 @@ row_lists-requires-clause-each c =
     ∙ sym (ap length c.as_slice.ensures.value ∙ ap length c.in_ok-rows.ensures.all ∙ length-range_with_len 0 (length c.args.hashes.now))
 
 pub returns-clause-rows : goal.returns-clause-rows
-returns-clause-rows c = λ hash hashed.
+returns-clause-rows c = λ r hashes.
     c.in_ok-row_lists.ensures
     ∙ ap (λ rows. lists_by rows c.as_slice-2.result.now c.args.n_partitions) (c.as_slice.ensures.value ∙ c.in_ok-rows.ensures.all)
-    ∙ partition_lists hash c.args.n_partitions (rows_below (length c.args.hashes.now)) c.args.hashes.now _ hashed (c.as_slice-2.ensures.value ∙ c.in_ok-numbers.ensures.numbers)
+    ∙ partition_lists r.hash c.args.n_partitions (rows_below (length c.args.hashes.now)) c.args.hashes.now _ hashes.are (c.as_slice-2.ensures.value ∙ c.in_ok-numbers.ensures.numbers)
 
 pub returns-clause-members : goal.returns-clause-members
 returns-clause-members c =

@@ -15,7 +15,7 @@ pub row_lists-requires-clause-few : goal.row_lists-requires-clause-few
 row_lists-requires-clause-few g c =
     let few = few_members _ _ c.requires.members in
     let long = ap length c.as_slice.ensures.value ∙ c.in_ok-found.ensures.each in
-    omega (arith, few, long, c.requires.few)
+    omega (arith, few, long, c.requires.hashes.within, c.requires.few)
 
 pub returns-clause-as_many : goal.returns-clause-as_many
 returns-clause-as_many g c =

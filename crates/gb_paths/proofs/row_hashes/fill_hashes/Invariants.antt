@@ -4,6 +4,6 @@ use Rattle.gb_paths.proofs.row_hashes.fill_hashes.Given as goal
 
 abbrev pub invariant-loop-place : goal.invariant-loop-place
 invariant-loop-place g l = record {
-  filled : take l.place l.room ≡ map (g.R.KeyRows.row_hash l.rows) (range_with_len l.start l.place);
+  filled : take l.place l.room ≡ map (g.R.KeyRows.rows l.rows).hash (range_with_len l.start l.place);
   long : length l.room ≡ length l.initial.room;
 }

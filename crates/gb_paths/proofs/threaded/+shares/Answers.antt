@@ -1,4 +1,4 @@
-use Rattle.gb_paths.proofs.MemberLemmas.{listed_back, listed_front}
+use Rattle.gb_paths.proofs.HashLemmas.{listed_back, listed_front}
 use Rattle.gb_paths.proofs.threaded.+shares.Goals as goal
 
 pub group_shares-group_both-parts-requires-clause-mine : goal.group_shares-group_both-parts-requires-clause-mine

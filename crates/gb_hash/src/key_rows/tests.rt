@@ -1,12 +1,12 @@
 ghost use Rattle.std.specs.Prelude.{◌≡◌, ◌<◌};
 
-use crate::byte_hash::hash_null;
 use crate::byte_rows::ByteRows;
 use crate::key_rows::KeyRows;
 use crate::mixer::SeedMixer;
 use crate::num_rows::NumRows;
 use crate::slice_rows::SliceRows;
 use crate::steps::Steps;
+use crate::word_hash::hash_null;
 use gb_cols::chunked::{Int64Chunked, StringChunked};
 use gb_cols::small_str::PlSmallStr;
 use std::marker::Brand;

@@ -1,5 +1,5 @@
--- Keys stand for slots, and slots have hashes.
-use Rattle.std.specs.Prelude.{◌≡◌, ℕ, ℤ, Bool, List, Option, None, Some, refl, nat_eq}
+-- Keys stand for slots, and rows with one slot have one hash.
+use Rattle.std.specs.Prelude.{◌≡◌, ℕ, ◌<◌, ℤ, Bool, List, map, Option, None, Some, refl, nat_eq}
 use Rattle.std.specs.Bool.{Decides}
 use Rattle.std.specs.Borrow.{Bor}
 use Rattle.std.specs.Option.{option_eq}
@@ -8,6 +8,7 @@ use Rattle.std.specs.Int.{Width}
 use Rattle.std.proofs.Common.{ap}
 use Rattle.gb_defs.specs.Slot.{Slot, Num, Bytes}
 use Rattle.gb_defs.specs.Hash.{hash_of}
+use Rattle.gb_defs.specs.Rows.{Rows, rows_of_slots}
 use Rattle.gb_cols.specs.Array.{number_slot_of, text_slot}
 
 -- numbers, equal where they are one
@@ -30,6 +31,13 @@ texts_decide None (Some b) = (λ e. cc, λ e. cc)
 texts_decide (Some a) None = (λ e. cc, λ e. cc)
 texts_decide (Some a) (Some b) = (λ e. ap (λ bytes. Bytes bytes) ((bytes_decides a.now b.now).0 e), λ e. (bytes_decides a.now b.now).1 (cc))
 
--- one slot has one hash
-pub one_hash : (width : Width) (seed : ℕ) (mix : ℕ → ℕ) (a b : Slot) → a ≡ b → hash_of width seed mix a ≡ hash_of width seed mix b
-one_hash width seed mix a b e = ap (hash_of width seed mix) e
+-- the slots of numbers in a list
+abbrev pub key_slots : {K : Type 0} → (K → ℤ) → List K → List Slot
+key_slots number keys = map (λ k. Num (number k)) keys
+
+-- rows with one slot have one hash
+abbrev pub HashAlike : Rows → Type 0
+HashAlike rows = (i j : ℕ) → i < rows.count → j < rows.count → rows.slot i ≡ rows.slot j → rows.hash i ≡ rows.hash j
+
+pub slots_alike : (width : Width) (seed : ℕ) (mix : ℕ → ℕ) (slots : List Slot) → HashAlike (rows_of_slots width seed mix slots)
+slots_alike width seed mix slots i j _ _ e = ap (hash_of width seed mix) e

@@ -1,6 +1,6 @@
 use Rattle.std.proofs.Common.{◌≡◌, ◌≤◌, vec_capacity}
 use Rattle.gb_defs.specs.Classes.{rows_below}
-use Rattle.gb_paths.proofs.row_hashes.all_rows.Given as goal
+use Rattle.gb_paths.proofs.all_rows.all_rows.Given as goal
 
 abbrev pub invariant-loop-row : goal.invariant-loop-row
 invariant-loop-row l = record {

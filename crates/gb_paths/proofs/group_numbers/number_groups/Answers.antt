@@ -1,57 +1,50 @@
-use Rattle.std.proofs.Common.{arith, ◌≤◌, length, get_or, refl, sym, ◌∙◌, ap}
-use Rattle.std.proofs.lemmas.List.{length-map}
-use Rattle.std.proofs.lemmas.List.FromFn.{length-range_with_len}
-use Rattle.gb_defs.specs.Classes.{rows_below}
+use Rattle.std.proofs.Common.{arith, ◌≤◌, length, get_or, refl, sym, ◌∙◌}
 use Rattle.gb_paths.proofs.KeyLemmas.{alike, few_groups, numbered_none, numbered_old, numbered_new, numbered_groups, numbered_ascend}
-use Rattle.gb_paths.proofs.MemberLemmas.{few_members, hash_of_row}
-use Rattle.gb_paths.proofs.row_numbers.number_rows.Goals as goal
-use Rattle.gb_paths.proofs.row_numbers.number_rows.Goals.{then-number-len+in_ok-push, else-number-len}
+use Rattle.gb_paths.proofs.HashLemmas.{hash_of_row}
+use Rattle.gb_paths.proofs.MemberLemmas.{few_members, members_more}
+use Rattle.gb_paths.proofs.group_numbers.number_groups.Goals as goal
+use Rattle.gb_paths.proofs.group_numbers.number_groups.Goals.{then-number-len+in_ok-push, else-number-len}
 
 pub loop-row-init : goal.loop-row-init
 loop-row-init g c = record {
-  numbered = rw (c.new-first.ensures.items, c.in_ok-numbers.ensures.items, c.in_ok-table.ensures) (numbered_none _ _ _ _ c.args.members.now);
-  room = omega (arith, c.in_ok-numbers.ensures.exact);
+  numbered = rw (c.new-first.ensures.items, c.in_ok-of_rows.ensures.items, c.in_ok-table.ensures) (numbered_none _ _ _ _ c.args.members.now);
+  room = omega (arith, c.in_ok-of_rows.ensures.exact);
   counted = omega arith;
 }
-
-pub bounds-hashes-row : goal.bounds-hashes-row
-bounds-hashes-row g c =
-    let count = g.R.KeyRows.row_count c.args.rows.now in
-    let long = ap length c.requires.hashes ∙ length-map (rows_below count) (g.R.KeyRows.row_hash c.args.rows.now) ∙ length-range_with_len 0 count in
-    let inside = c.requires.members.below c.loop-row.row-index 0 c.loop-row-test.true in
-    omega (arith, long, inside)
 
 pub number_of-requires-clause-few : goal.number_of-requires-clause-few
 number_of-requires-clause-few g c =
     let groups = few_groups _ _ _ _ c.loop-row.invariant.numbered in
     let rows = few_members _ _ c.requires.members in
-    omega (arith, groups, rows, c.requires.few, c.loop-row-test.true)
+    omega (arith, groups, rows, c.requires.hashes.within, c.requires.few, c.loop-row-test.true)
 
 pub number_of-requires-clause-alike : goal.number_of-requires-clause-alike
 number_of-requires-clause-alike g c =
-    let rows = c.args.rows.now in
+    let rows = g.R.KeyRows.rows c.args.rows.now in
     let row = get_or c.args.members.now c.loop-row.row-index 0 in
     -- the rows and the keys may go to other threads, so their laws hold wherever a thread may run: here too
     let laws = g.met.R.KeyRows g.world.𝓛 g.world.𝓜 g.world.𝓡 ((λ s x. x), (λ x. x), (λ x. x), λ x. x) in
     let inside = c.requires.members.below c.loop-row.row-index 0 c.loop-row-test.true in
-    let hashed = hash_of_row (g.R.KeyRows.row_hash rows) (g.R.KeyRows.row_count rows) c.args.hashes.now row c.requires.hashes inside in
-    alike _ _ _ _ c.loop-row.invariant.numbered (g.R.KeyRows.row_count rows) c.requires.members row c.loop-row-test.true refl laws.keys_decide c.key_at-key.result c.key_at-key.ensures.value _ hashed (laws.hashes_alike rows)
+    let hashed = hash_of_row rows c.args.hashes.now row c.requires.hashes inside in
+    let members = members_more (length c.args.hashes.now) rows.count _ (omega (arith, c.requires.hashes.within)) c.requires.members in
+    alike _ _ _ _ c.loop-row.invariant.numbered rows.count members row c.loop-row-test.true refl laws.keys_decide c.key_at-key.result c.key_at-key.ensures.value _ hashed (laws.hashes_alike c.args.rows.now)
 
 pub loop-row-preserved : goal.loop-row-preserved
 loop-row-preserved g c =
-    let rows = c.args.rows.now in
+    let rows = g.R.KeyRows.rows c.args.rows.now in
     let row = get_or c.args.members.now c.loop-row.row-index 0 in
     let laws = g.met.R.KeyRows g.world.𝓛 g.world.𝓜 g.world.𝓡 ((λ s x. x), (λ x. x), (λ x. x), λ x. x) in
     let inside = c.requires.members.below c.loop-row.row-index 0 c.loop-row-test.true in
-    let hashed = hash_of_row (g.R.KeyRows.row_hash rows) (g.R.KeyRows.row_count rows) c.args.hashes.now row c.requires.hashes inside in
+    let hashed = hash_of_row rows c.args.hashes.now row c.requires.hashes inside in
+    let members = members_more (length c.args.hashes.now) rows.count _ (omega (arith, c.requires.hashes.within)) c.requires.members in
     let long = c.len.ensures in
     record {
       numbered = elim c.if-number-len.branch [
         | then-number-len+in_ok-push w ↦ rw (w.first-is, w.in_ok-push.ensures.items, c.push_reserved.ensures.items)
-            (numbered_new _ _ _ _ c.loop-row.invariant.numbered (g.R.KeyRows.row_count rows) c.requires.members row c.loop-row-test.true refl laws.keys_decide c.key_at-key.result c.key_at-key.ensures.value _ c.in_ok-number.number hashed c.number_of.new.self c.in_ok-number.ensures.found
+            (numbered_new _ _ _ _ c.loop-row.invariant.numbered rows.count members row c.loop-row-test.true refl laws.keys_decide c.key_at-key.result c.key_at-key.ensures.value _ c.in_ok-number.number hashed c.number_of.new.self c.in_ok-number.ensures.found
             (w.if-number-len.true ∙ long ∙ c.loop-row.first.ok.0))
         | else-number-len w ↦ rw (w.first-is, c.push_reserved.ensures.items)
-            (numbered_old _ _ _ _ c.loop-row.invariant.numbered (g.R.KeyRows.row_count rows) c.requires.members row c.loop-row-test.true refl laws.keys_decide c.key_at-key.result c.key_at-key.ensures.value _ c.in_ok-number.number hashed c.number_of.new.self c.in_ok-number.ensures.found
+            (numbered_old _ _ _ _ c.loop-row.invariant.numbered rows.count members row c.loop-row-test.true refl laws.keys_decide c.key_at-key.result c.key_at-key.ensures.value _ c.in_ok-number.number hashed c.number_of.new.self c.in_ok-number.ensures.found
             (λ same. w.if-number-len.false (same ∙ sym (long ∙ c.loop-row.first.ok.0))))
       ];
       room = omega arith;

@@ -2,7 +2,7 @@ use Rattle.std.proofs.Common.{arith, ◌≡◌, ◌∙◌, ap, length}
 use Rattle.std.proofs.lemmas.List.FromFn.{length-range_with_len}
 use Rattle.gb_defs.proofs.ClassesLemmas.{rows_below_more}
 use Rattle.gb_paths.proofs.MemberLemmas.{all_members}
-use Rattle.gb_paths.proofs.row_hashes.all_rows.Goals as goal
+use Rattle.gb_paths.proofs.all_rows.all_rows.Goals as goal
 
 pub push_reserved-requires : goal.push_reserved-requires
 push_reserved-requires c =
