@@ -79,19 +79,29 @@ fn put_cell(
     }
 {
     let mut digits = Buffer::new();
+    // A column's name is asked for since that call tells its type.
     match column {
-        Series::UInt32(column) => match column.get(row) {
-            Some(number) => put_field(writer, digits.format(number).as_bytes()),
-            None => put_field(writer, null_word.as_bytes()),
-        },
-        Series::Int64(column) => match column.get(row) {
-            Some(number) => put_field(writer, digits.format(number).as_bytes()),
-            None => put_field(writer, null_word.as_bytes()),
-        },
-        Series::String(column) => match column.get(row) {
-            Some(text) => put_field(writer, text.as_bytes()),
-            None => put_field(writer, null_word.as_bytes()),
-        },
+        Series::UInt32(column) => {
+            let _ = column.name();
+            match column.get(row) {
+                Some(number) => put_field(writer, digits.format(number).as_bytes()),
+                None => put_field(writer, null_word.as_bytes()),
+            }
+        }
+        Series::Int64(column) => {
+            let _ = column.name();
+            match column.get(row) {
+                Some(number) => put_field(writer, digits.format(number).as_bytes()),
+                None => put_field(writer, null_word.as_bytes()),
+            }
+        }
+        Series::String(column) => {
+            let _ = column.name();
+            match column.get(row) {
+                Some(text) => put_field(writer, text.as_bytes()),
+                None => put_field(writer, null_word.as_bytes()),
+            }
+        }
     }
 }
 
