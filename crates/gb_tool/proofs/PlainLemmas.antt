@@ -1,20 +1,19 @@
 -- Cells and records of plain text, as csv's machine reads them.
-use Rattle.std.proofs.Common.{◌≡◌, ◌≢◌, ◌==◌, ℕ, ◌+◌, ◌<◌, ◌≤◌, Bool, true, false, List, [], ◌∷◌, ◌++◌, length, get_or, get_or-drop, set, take, drop, refl, sym, ◌∙◌, ap, append_assoc, arith, Some, None}
-use Rattle.std.specs.Prelude.{option_map}
+use Rattle.std.proofs.Common.{◌≡◌, ◌≢◌, ◌==◌, ℕ, ◌+◌, ◌<◌, ◌≤◌, Bool, true, false, List, [], ◌∷◌, ◌++◌, length, get_or, get_or-drop, take, drop, refl, sym, ◌∙◌, ap, arith, Some, None, Ok, Err}
 use Rattle.std.specs.Str.{IsAscii}
 use Rattle.std.proofs.lemmas.Bool.{ne_eqb}
-use Rattle.std.proofs.lemmas.List.{append-nil, take_all, drop_all, drop_more, take_more, take_more_set, drop-set-lt}
+use Rattle.std.proofs.lemmas.List.{take_all, drop_all, drop_more, take_more}
 use Rattle.csv.specs.declared.parser.State.{State}
 use Rattle.csv.specs.declared.parser.State.TheVariants as st
 use Rattle.csv.specs.Machine.{next_record}
 use Rattle.csv.specs.Reading.{Reached, default_config, strip_bom}
 use Rattle.csv.proofs.ReadFacts.{reached-more}
-use Rattle.gb_defs.specs.Column.{ColumnValue, Frame}
-use Rattle.gb_defs.specs.Table.{readable_table}
-use Rattle.gb_tool.specs.Plain.{IsCut, TakesLine}
-use Rattle.gb_tool.specs.Table.{both_onto, column_with, columns_of_header, columns_with}
-use Rattle.gb_tool.proofs.PushLemmas.{ascii_take, front_more, no_front}
-use Rattle.gb_tool.proofs.ReadingLemmas.{IsReading, reading_end, reading_header, reading_more}
+use Rattle.gb_defs.specs.Column.{Frame}
+use Rattle.gb_defs.specs.Table.{TableFault, table}
+use Rattle.gb_tool.specs.Plain.{BeginsWith, IsCut, TakesLine}
+use Rattle.gb_tool.specs.Table.{columns_of_header}
+use Rattle.gb_tool.proofs.PushLemmas.{ascii_take}
+use Rattle.gb_tool.proofs.ReadingLemmas.{IsReading, header_bad, reading_end, reading_header, reading_more}
 
 -- ---- one byte
 
@@ -122,45 +121,27 @@ module _ (text cell rest : List ℕ) (last : Bool) (c : IsCut text cell rest las
   pub rest_ascii : IsAscii rest
   rest_ascii = rw c.rest_is (λ i. rw (get_or-drop (c.count + 1) text i 0) (ascii (c.count + 1 + i)))
 
--- ---- the cells of a record, one column after the other
-
-module _ (null_word : List ℕ) (initial : Frame) where
-  -- the columns before the i-th have these cells, whatever cells follow
-  pub record IsPassing (done : List (List ℕ)) (i : ℕ) (now : Frame) : Type 0 where
-    pub so_far : (more : List (List ℕ)) → columns_with null_word initial (done ++ more) ≡ option_map (λ cs. take i now ++ cs) (columns_with null_word (drop i now) more)
-
-  pub passing_none : IsPassing [] 0 initial
-  passing_none = record { so_far = λ more. no_front (columns_with null_word initial more) }
-
-  module _ (done : List (List ℕ)) (i : ℕ) (now : Frame) (s : IsPassing done i now) where
-    pub passing_more : (c d : ColumnValue) (cell : List ℕ) → i < length now → c ≡ get_or now i c → column_with null_word c cell ≡ Some d → IsPassing (done ++ cell ∷ []) (i + 1) (set now i d)
-    passing_more c d cell lt at e = record {
-      so_far = λ more.
-          let rest = columns_with null_word (drop (i + 1) now) more in
-          let here : columns_with null_word (drop i now) (cell ∷ more) ≡ both_onto (column_with null_word c cell) rest = rw (drop_more now i c lt, ← at) in
-          let one = here ∙ ap (λ o. both_onto o rest) e in
-          let moved = ap (columns_with null_word initial) (append_assoc done (cell ∷ []) more) ∙ s.so_far (cell ∷ more) ∙ ap (option_map (λ cs. take i now ++ cs)) one ∙ front_more (take i now) d rest in
-          rw (take_more_set now i d lt, drop-set-lt (i + 1) now i d (omega arith)) moved;
-    }
-
-    pub passing_all : length now ≤ i → columns_with null_word initial done ≡ Some now
-    passing_all few = ap (columns_with null_word initial) (sym (append-nil done)) ∙ s.so_far [] ∙ (rw (drop_all i now few, take_all i now few, append-nil))
-
 -- ---- the records of a table
 
 module _ (null_word bytes : List ℕ) where
-  pub plain_start : (header : List (List ℕ)) (rest : List ℕ) (frame : Frame) → 0 < length bytes → get_or bytes 0 0 ≢ 239 → get_or bytes 0 0 ≢ 10 → get_or bytes 0 0 ≢ 13
-      → next_record default_config st.StartField [] [] bytes ≡ Some (header, st.StartRecord, rest) → columns_of_header header ≡ Some frame → IsReading null_word bytes frame st.StartRecord rest
-  unfolding Reached
-  plain_start header rest frame some mark feed return e made =
-      let read : next_record default_config st.StartRecord [] [] (strip_bom bytes) ≡ Some (header, st.StartRecord, rest) = rw (no_mark bytes mark) (begins bytes some feed return ∙ e) in
-      reading_header null_word bytes header frame st.StartRecord rest ((header, st.StartRecord, rest), read, refl, (refl, refl)) made
+  module _ (header : List (List ℕ)) (rest : List ℕ) (some : 0 < length bytes) (mark : get_or bytes 0 0 ≢ 239) (feed : get_or bytes 0 0 ≢ 10) (return : get_or bytes 0 0 ≢ 13) (e : BeginsWith header bytes rest) where
+    plain_reached : Reached default_config st.StartRecord (strip_bom bytes) (header ∷ []) st.StartRecord rest
+    unfolding Reached
+    plain_reached =
+        let read : next_record default_config st.StartRecord [] [] (strip_bom bytes) ≡ Some (header, st.StartRecord, rest) = rw (no_mark bytes mark) (begins bytes some feed return ∙ e) in
+        ((header, st.StartRecord, rest), read, refl, (refl, refl))
 
-  module _ (frame : Frame) (left : List ℕ) (now : IsReading null_word bytes frame st.StartRecord left) where
-    pub plain_more : (frame' : Frame) (rest : List ℕ) → 0 < length left → get_or left 0 0 ≢ 10 → get_or left 0 0 ≢ 13 → TakesLine null_word frame frame' left rest → IsReading null_word bytes frame' st.StartRecord rest
+    pub plain_start : (frame : Frame) → columns_of_header header ≡ Ok frame → IsReading null_word bytes 1 frame st.StartRecord rest
+    plain_start frame made = reading_header null_word bytes header frame st.StartRecord rest plain_reached made
+
+    pub plain_no_columns : (fault : TableFault) → columns_of_header header ≡ Err fault → table bytes null_word ≡ Err fault
+    plain_no_columns fault bad = header_bad null_word bytes header st.StartRecord rest plain_reached fault bad
+
+  module _ (row : ℕ) (frame : Frame) (left : List ℕ) (now : IsReading null_word bytes row frame st.StartRecord left) where
+    pub plain_more : (frame' : Frame) (rest : List ℕ) → 0 < length left → get_or left 0 0 ≢ 10 → get_or left 0 0 ≢ 13 → TakesLine null_word frame frame' left rest → IsReading null_word bytes (row + 1) frame' st.StartRecord rest
     plain_more frame' rest some feed return t =
         let reached = reached-more default_config st.StartRecord st.StartRecord (strip_bom bytes) left (now.header ∷ now.rows) (t.fields, st.StartRecord, rest) now.reached (begins left some feed return ∙ t.reads) in
-        reading_more null_word bytes frame st.StartRecord left now t.fields frame' st.StartRecord rest reached t.takes
+        reading_more null_word bytes row frame st.StartRecord left now t.fields frame' st.StartRecord rest reached (t.takes row)
 
-    pub plain_end : length left ≡ 0 → readable_table bytes null_word ≡ Some frame
-    plain_end none = reading_end null_word bytes frame st.StartRecord left now (none_left left none)
+    pub plain_end : length left ≡ 0 → table bytes null_word ≡ Ok frame
+    plain_end none = reading_end null_word bytes row frame st.StartRecord left now (none_left left none)

@@ -1,18 +1,24 @@
 -- A header field of a type whose cells are read today.
 use Rattle.std.specs.Prelude.{ℕ, List, [], ◌∷◌, Option, Some, None, if◌then◌else◌}
-use Rattle.std.specs.Str.{is_utf8}
+use denote.Ref.{Bor}
 use Rattle.gb_defs.specs.ColumnType.{FlatType}
 use Rattle.gb_defs.specs.Cell.{is_read, is_read_flat}
-use Rattle.gb_defs.specs.Table.{Head, head_of}
+use Rattle.gb_defs.specs.Table.{Head, head_of, is_readable}
+use Rattle.gb_cols.specs.DataType.{type_of}
+use Rattle.gb_cols.specs.declared.data_type.DataType.{DataType}
+
+-- a name and a type, as a head
+abbrev pub head_from : Bor (List ℕ) × DataType → Head
+head_from p = record { name = p.0.now; dtype = type_of p.1 }
 
 abbrev pub readable_head : Head → Option Head
 readable_head head = if is_read head.dtype then Some head else None
+
+-- the head of a field, where it reads
+abbrev pub readable_field : List ℕ → Option Head
+readable_field field = if is_readable field then Some (head_of field) else None
 
 -- the words of the types that are not read
 abbrev pub unread_words : List (List ℕ × FlatType) → List (List ℕ)
 unread_words [] = []
 unread_words (w ∷ ws) = if is_read_flat w.1 then unread_words ws else w.0 ∷ unread_words ws
-
--- the head of a field that is text
-abbrev pub readable_field : List ℕ → Option Head
-readable_field field = if is_utf8 field then readable_head (head_of field) else None

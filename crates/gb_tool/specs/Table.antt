@@ -1,50 +1,75 @@
--- How a table's text is taken up, and why it is refused.
-use Rattle.std.specs.Prelude.{◌≡◌, ◌+◌, ◌^◌, ◌<◌, length, ℕ, Bool, List, [], ◌∷◌, Option, Some, None, option_map, if◌then◌else◌}
+-- How a table's text is taken up, record by record, and the fault of a record.
+use Rattle.std.specs.Prelude.{◌≡◌, ◌+◌, ◌^◌, ◌<◌, length, map, ℕ, Bool, true, List, [], ◌∷◌, Option, Some, None, option_map, if◌then◌else◌, Result, Ok, Err}
+use denote.Ref.{Bor}
 use Rattle.gb_defs.specs.ColumnType.{int64, text}
-use Rattle.gb_series.specs.declared.series.Series.{Series}
-use Rattle.gb_series.specs.declared.series.Series.TheVariants.{UInt32, Int64, String}
+use Rattle.gb_defs.specs.Slot.{Slot}
 use Rattle.gb_defs.specs.Column.{ColumnValue, Frame}
 use Rattle.gb_defs.specs.Cell.{cell_slot}
-use Rattle.gb_defs.specs.Table.{Head, heads_of, columns_from, if_all_read}
-use Rattle.gb_defs.specs.Table as table
+use Rattle.gb_defs.specs.Table.{TableFault, Head, heads_of, columns_from, record_slots}
 use Rattle.gb_cols.specs.Column.{pushed}
-use Rattle.std.specs.Prelude.{Result, Ok, Err}
+use Rattle.gb_series.specs.declared.series.Series.{Series}
+use Rattle.gb_series.specs.declared.series.Series.TheVariants.{UInt32, Int64, String}
+use Rattle.csv.specs.declared.reader.Reader.{Reader}
+use Rattle.csv.specs.declared.reader.Trim.TheVariants as trim
+use Rattle.csv.specs.Reading.{Ready, default_config}
+
+-- what a result holds, changed, where there is no fault
+abbrev pub map_ok : {A B : Type 0} → (A → B) → Result A TableFault → Result B TableFault
+map_ok f (Ok x) = Ok (f x)
+map_ok f (Err fault) = Err fault
 
 -- there is room for one slot more
 abbrev pub HasRoom : ColumnValue → Type 0
 HasRoom c = length c.slots + 1 < 2 ^ 63
 
--- what was taken, where it was
-abbrev pub if_taken : {A : Type 0} → Bool → A → Option A
-if_taken took a = if took then Some a else None
-
--- the list with a first element, where there is one
-abbrev pub both_onto : {A : Type 0} → Option A → Option (List A) → Option (List A)
-both_onto None rest = None
-both_onto (Some x) None = None
-both_onto (Some x) (Some xs) = Some (x ∷ xs)
+-- ---- a cell
 
 -- the column with the slot of a field at its end
 abbrev pub column_with : List ℕ → ColumnValue → List ℕ → Option ColumnValue
 column_with null_word c field = option_map (pushed c) (cell_slot null_word c.dtype field)
 
--- the columns with the slots of a record at their ends
-abbrev pub columns_with : List ℕ → Frame → List (List ℕ) → Option Frame
-columns_with null_word [] [] = Some []
-columns_with null_word [] (field ∷ fields) = None
-columns_with null_word (c ∷ cs) [] = None
-columns_with null_word (c ∷ cs) (field ∷ fields) = both_onto (column_with null_word c field) (columns_with null_word cs fields)
+-- what was taken, where it was
+abbrev pub if_taken : {A : Type 0} → Bool → A → Option A
+if_taken took a = if took then Some a else None
 
-abbrev pub empty_columns : Result (List Head) table.TableFault → Option Frame
-empty_columns (Err fault) = None
-empty_columns (Ok heads) = if_all_read (columns_from 0 heads [])
+-- whether the field reads, and if so the column has its slot at the end
+abbrev pub TakesCell : List ℕ → ColumnValue → ColumnValue → List ℕ → Bool → Type 0
+TakesCell null_word old new field took = if_taken took new ≡ column_with null_word old field
 
--- the columns of a header, with no slots
-abbrev pub columns_of_header : List (List ℕ) → Option Frame
-columns_of_header fields = empty_columns (heads_of fields)
+-- ---- a record
+
+abbrev pub head_in : ColumnValue → Head
+head_in c = record { name = c.name; dtype = c.dtype }
+
+-- the columns with a slot more each, as far as there are slots
+abbrev pub pushed_each : Frame → List Slot → Frame
+pushed_each [] slots = []
+pushed_each (c ∷ cs) [] = []
+pushed_each (c ∷ cs) (slot ∷ slots) = pushed c slot ∷ pushed_each cs slots
+
+-- the columns with the slots of a record of this row at their ends, or the record's fault
+abbrev pub columns_with : List ℕ → ℕ → Frame → List (List ℕ) → Result Frame TableFault
+columns_with null_word row cs fields = map_ok (pushed_each cs) (record_slots null_word row (map head_in cs) fields)
+
+-- the columns of a header, with no slots, or the header's fault
+abbrev pub columns_of_header : List (List ℕ) → Result Frame TableFault
+columns_of_header fields = map_ok (λ heads. columns_from 0 heads []) (heads_of fields)
 
 -- the type is that of the column's storage, and its cells are read
 abbrev pub IsTyped : Series → Type 0
 IsTyped (UInt32 c) = ⊥
 IsTyped (Int64 c) = c.dtype ≡ int64
 IsTyped (String c) = c.dtype ≡ text
+
+-- ---- a reader
+
+-- the reader gives whole records of any length, and no header row
+pub record GivesRecords (reader : Reader (Bor (List ℕ))) : Type 0 where
+  pub trim : reader.trim ≡ trim.None
+  pub ready : Ready reader
+  pub config : reader.config ≡ default_config
+  pub flexible : reader.flexible ≡ true
+
+-- the bytes of a slice that are left
+abbrev pub left_of : Bor (List ℕ) → Option (List ℕ)
+left_of s = Some s.now

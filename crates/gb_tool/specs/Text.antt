@@ -1,9 +1,11 @@
 -- What a writer of records over bytes has taken of a text.
 use Rattle.std.specs.Prelude.{◌≡◌, ◌==◌, ◌&&◌, ◌||◌, ◌+◌, ◌^◌, ◌<◌, not, ℕ, List, [], ◌∷◌, ◌++◌, map, length, Some, Vec}
 use Rattle.std.specs.Global.{Global}
-use Rattle.csv.specs.Writing.{default_writer, fields_written, has_written, is_blank, row_body, text_written, writer_setup}
+use Rattle.csv.specs.Writing.{default_writer, fields_written, has_written, is_blank, row_body, row_text, text_written, writer_setup}
 use Rattle.csv.specs.declared.writer.Writer.{Writer}
-use Rattle.gb_defs.specs.Column.{Content, content}
+use Rattle.gb_defs.specs.Slot.{slot_at}
+use Rattle.gb_defs.specs.Column.{ColumnValue, Content, content}
+use Rattle.gb_defs.specs.CellText.{cell_text}
 use Rattle.gb_series.specs.declared.series.Series.{Series}
 use Rattle.gb_series.specs.Series.{value_of}
 
@@ -18,6 +20,10 @@ pub record HasBegun (writer : Writer (Vec ℕ Global)) (before : List ℕ) (fiel
 abbrev pub TakesField : Writer (Vec ℕ Global) → Writer (Vec ℕ Global) → List ℕ → Type 0
 TakesField old new field = (before : List ℕ) (fields : List (List ℕ)) → length fields + 1 < 2 ^ 64 → HasBegun old before fields → HasBegun new before (fields ++ field ∷ [])
 
+-- the record that was begun has ended
+abbrev pub EndsRow : Writer (Vec ℕ Global) → Writer (Vec ℕ Global) → Type 0
+EndsRow old new = (before : List ℕ) (fields : List (List ℕ)) → HasBegun old before fields → HasBegun new (before ++ row_text default_writer fields) []
+
 -- rows were put behind those before, and no record is begun
 abbrev pub TakesRows : Writer (Vec ℕ Global) → Writer (Vec ℕ Global) → List ℕ → Type 0
 TakesRows old new text = (before : List ℕ) → HasBegun old before [] → HasBegun new (before ++ text) []
@@ -25,3 +31,7 @@ TakesRows old new text = (before : List ℕ) → HasBegun old before [] → HasB
 -- the columns, as a text shows them
 abbrev pub contents_of : List Series → List Content
 contents_of columns = map (λ column. content (value_of column)) columns
+
+-- the cell of a column at a row
+abbrev pub cell_of : List ℕ → ColumnValue → ℕ → List ℕ
+cell_of null_word c row = cell_text null_word c.dtype (slot_at c.slots row)

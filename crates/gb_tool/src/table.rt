@@ -1,41 +1,33 @@
+//! A table's text, read as a frame: in place where it is plain, and else by `csv`, which tells each
+//! fault at its place.
+
 mod cell;
 mod column;
-mod head;
 mod header;
+mod header_field;
 mod plain;
 #[cfg(test)]
 mod tests;
 
-ghost use Rattle.std.specs.Prelude.{◌≡◌, ◌≤◌, length, map, Some, IfOk, IfErr};
+ghost use Rattle.std.specs.Prelude.{◌≡◌, ◌≤◌, true, length, map, Ok, Err, OnOk, OnErr, IfOk, IfErr};
 ghost use Rattle.gb_defs.specs.Column.{IsFrame};
-ghost use Rattle.gb_defs.specs.Table.{readable_table};
+ghost use Rattle.gb_defs.specs.Table.{table};
+ghost use Rattle.gb_cols.specs.PlSmallStr.{IsNoMemory};
 ghost use Rattle.gb_series.specs.Series.{value_of};
-ghost use Rattle.gb_tool.specs.Table.{IsRefusedTable};
+ghost use Rattle.gb_tool.specs.Refusal.{IsRefusedTable};
+ghost use Rattle.gb_tool.specs.Table.{GivesRecords, left_of};
+ghost use Rattle.csv.specs.Reading.{ReadRecord};
+ghost use Rattle.csv.specs.Records.{fields_of};
 
 use crate::status::{TableError, TableFault};
 use crate::table::column::push_record;
 use crate::table::header::columns_of_header;
 use crate::table::plain::plain_table;
-use csv::{ByteRecord, ReaderBuilder};
-use gb_cols::error::PolarsError;
+use csv::{ByteRecord, Reader, ReaderBuilder};
+use gb_cols::error::{PolarsError, PolarsResult};
 use gb_series::frame::DataFrame;
 use gb_series::series::Series;
-use std::alloc::{AllocError, Global};
-
-// What is answered of every fault: its place is not told today.
-const BAD_TABLE: TableError = TableError::Fault(TableFault::BadCell(0, 0));
-
-impl From<csv::Error> for TableError {
-    ghost use Rattle.std.specs.Prelude.{◌≡◌};
-    ghost use Rattle.gb_tool.specs.declared.status.TableError.TheVariants.{NoMemory};
-
-    ghost from_gives = { λ _ e. e ≡ NoMemory };
-
-    // The bytes are there, so that only memory can lack.
-    fn from(_: csv::Error) -> TableError {
-        TableError::NoMemory
-    }
-}
+use std::alloc::{AllocError, AllocFailed, Global};
 
 impl From<AllocError> for TableError {
     ghost use Rattle.std.specs.Prelude.{◌≡◌};
@@ -48,36 +40,47 @@ impl From<AllocError> for TableError {
     }
 }
 
-impl From<PolarsError> for TableError {
+impl<T: Drop> From<AllocFailed<T>> for TableError {
     ghost use Rattle.std.specs.Prelude.{◌≡◌};
     ghost use Rattle.gb_tool.specs.declared.status.TableError.TheVariants.{NoMemory};
 
     ghost from_gives = { λ _ e. e ≡ NoMemory };
 
-    // Columns that are made and filled here fail for want of memory alone.
-    fn from(_: PolarsError) -> TableError {
+    fn from(_: AllocFailed<T>) -> TableError {
         TableError::NoMemory
     }
 }
 
+/// What a call gave that can fail for want of memory alone.
+pub fn only_memory<T>(called: PolarsResult<T>) -> Result<T, AllocError>
+    requires { IfErr called IsNoMemory }
+    ensures ok { IfOk result (λ value. called ≡ Ok value) }
+    ensures err { OnErr result (called ≡ Err PolarsError.NoMemory) }
+{
+    match called {
+        Ok(value) => Ok(value),
+        Err(_) => Err(AllocError),
+    }
+}
+
 // The frame of columns of one length with different names.
-fn frame_of(columns: Vec<Series>) -> Result<DataFrame, TableError>
+fn frame_of(columns: Vec<Series>) -> Result<DataFrame, AllocError>
     requires { IsFrame (map value_of columns.items) }
-    ensures ok { IfOk result (λ frame. frame ≡ map value_of columns.items) }
-    ensures err { IfErr result (λ e. e ≡ TableError.NoMemory) }
+    ensures { IfOk result (λ frame. frame ≡ map value_of columns.items) }
 {
     match DataFrame::new(columns) {
         Ok(frame) => Ok(frame),
-        Err(PolarsError::NoMemory) => Err(TableError::NoMemory),
+        Err(PolarsError::NoMemory) => Err(AllocError),
         Err(_) => unreachable!(),
     }
 }
 
-/// The frame that the bytes are, by typed CSV. Reading ends at the first fault.
+/// The frame that the bytes are, by typed CSV. Reading ends at the first fault, which tells its row and
+/// column.
 pub fn table_of(alloc: Global, bytes: &[u8], null_word: &str) -> Result<DataFrame, TableError>
     requires { length bytes.now ≤ 4294967295 }
-    ensures ok { IfOk result (λ frame. readable_table bytes.now null_word.now ≡ Some frame) }
-    ensures err { IfErr result (λ e. IsRefusedTable e (readable_table bytes.now null_word.now)) }
+    ensures ok { IfOk result (λ frame. table bytes.now null_word.now ≡ Ok frame) }
+    ensures err { IfErr result (λ e. IsRefusedTable e (table bytes.now null_word.now)) }
 {
     if let Some(frame) = plain_table(alloc, bytes, null_word)? {
         return Ok(frame);
@@ -85,34 +88,43 @@ pub fn table_of(alloc: Global, bytes: &[u8], null_word: &str) -> Result<DataFram
     csv_table(alloc, bytes, null_word)
 }
 
+// The next record, false where there is none. Of a reader over bytes in memory that takes records of
+// any length, every error is want of memory.
+fn read_record(reader: &mut Reader<&[u8]>, fields: &mut ByteRecord) -> Result<bool, AllocError>
+    requires { GivesRecords reader.old }
+    ensures read {
+        IfOk result (λ found. ReadRecord left_of reader.old reader.new found (fields_of fields.new))
+    }
+    ensures gives { OnOk result (GivesRecords reader.new) }
+{
+    match reader.read_byte_record(fields) {
+        Ok(found) => Ok(found),
+        Err(_) => Err(AllocError),
+    }
+}
+
 // The frame that the bytes are, read by `csv`.
 fn csv_table(alloc: Global, bytes: &[u8], null_word: &str) -> Result<DataFrame, TableError>
     requires { length bytes.now ≤ 4294967295 }
-    ensures ok { IfOk result (λ frame. readable_table bytes.now null_word.now ≡ Some frame) }
-    ensures err { IfErr result (λ e. IsRefusedTable e (readable_table bytes.now null_word.now)) }
+    ensures ok { IfOk result (λ frame. table bytes.now null_word.now ≡ Ok frame) }
+    ensures err { IfErr result (λ e. IsRefusedTable e (table bytes.now null_word.now)) }
 {
     let mut reader = ReaderBuilder::new()
         .has_headers(false)
         .flexible(true)
         .from_reader(alloc, bytes);
-    let mut row = ByteRecord::new(alloc);
-    let found = reader.read_byte_record(&mut row)?;
+    let mut fields = ByteRecord::new(alloc);
+    let found = read_record(&mut reader, &mut fields)?;
     if !found {
-        return Err(BAD_TABLE);
+        return Err(TableError::Fault(TableFault::NoHeader));
     }
-    let named = columns_of_header(alloc, &row)?;
-    let Some(mut columns) = named else {
-        return Err(BAD_TABLE);
-    };
-    for _ in 0..u64::MAX {
-        let found = reader.read_byte_record(&mut row)?;
+    let mut columns = columns_of_header(alloc, &fields)?;
+    for row in 1..u64::MAX {
+        let found = read_record(&mut reader, &mut fields)?;
         if !found {
-            return frame_of(columns);
+            return Ok(frame_of(columns)?);
         }
-        let took = push_record(&mut columns, &row, null_word)?;
-        if !took {
-            return Err(BAD_TABLE);
-        }
+        push_record(&mut columns, &fields, row, null_word)?;
     }
     Err(TableError::NoMemory)
 }

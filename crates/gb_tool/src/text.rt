@@ -1,26 +1,24 @@
 //! The text of a frame: a row of header fields, and a row of cells for each row.
 
-ghost use Rattle.std.specs.Prelude.{◌≡◌, ◌+◌, ◌<◌, ◌++◌, ◌∷◌, ◌^◌, ℕ, List, [], All, IfErr, IfOk, OnOk, length, map};
+ghost use Rattle.std.specs.Prelude.{◌≡◌, ◌<◌, All, IfErr, IfOk, OnOk, length, map};
 ghost use Rattle.std.specs.List.{flat_map};
-ghost use Rattle.csv.specs.Writing.{default_writer, row_text};
-ghost use Rattle.gb_defs.specs.Slot.{slot_at};
 ghost use Rattle.gb_defs.specs.Classes.{rows_below};
 ghost use Rattle.gb_defs.specs.Column.{content};
-ghost use Rattle.gb_defs.specs.Cell.{cell_text};
 ghost use Rattle.gb_defs.specs.Text.{frame_text, header_field, header_line, row_line};
 ghost use Rattle.gb_defs.specs.TypeWord.{type_word};
 ghost use Rattle.gb_cols.specs.DataType.{type_of};
 ghost use Rattle.gb_cols.specs.PlSmallStr.{IsNoMemory};
 ghost use Rattle.gb_series.specs.Series.{value_of};
-ghost use Rattle.gb_tool.specs.Text.{HasBegun, TakesField, TakesRows, contents_of};
+ghost use Rattle.gb_tool.specs.Text.{EndsRow, TakesField, TakesRows, cell_of, contents_of};
 
+use crate::table::only_memory;
 use csv::{Writer, WriterBuilder};
 use gb_cols::data_type::DataType;
 use gb_cols::error::{PolarsError, PolarsResult};
 use gb_series::frame::DataFrame;
 use gb_series::series::Series;
 use itoa::Buffer;
-use std::alloc::Global;
+use std::alloc::{AllocError, Global};
 
 // The word of a type.
 fn word_of(dtype: DataType) -> &'static str
@@ -34,33 +32,33 @@ fn word_of(dtype: DataType) -> &'static str
 }
 
 // One field more of the record.
-fn put_field(writer: &mut Writer<Vec<u8>>, field: &[u8]) -> PolarsResult<()>
-    ensures ok { OnOk result (TakesField writer.old writer.new field.now) }
-    ensures err { IfErr result IsNoMemory }
+fn put_field(writer: &mut Writer<Vec<u8>>, field: &[u8]) -> Result<(), AllocError>
+    ensures { OnOk result (TakesField writer.old writer.new field.now) }
 {
     match writer.write_field(field) {
         Ok(()) => Ok(()),
-        Err(_) => Err(PolarsError::NoMemory),
+        Err(_) => Err(AllocError),
     }
 }
 
 // The end of the record.
-fn end_row(writer: &mut Writer<Vec<u8>>) -> PolarsResult<()>
-    ensures ok { OnOk result ((before : List ℕ) (fields : List (List ℕ)) → HasBegun writer.old before fields → HasBegun writer.new (before ++ row_text default_writer fields) []) }
-    ensures err { IfErr result IsNoMemory }
+fn end_row(writer: &mut Writer<Vec<u8>>) -> Result<(), AllocError>
+    ensures { OnOk result (EndsRow writer.old writer.new) }
 {
     match writer.end_record() {
         Ok(()) => Ok(()),
-        Err(_) => Err(PolarsError::NoMemory),
+        Err(_) => Err(AllocError),
     }
 }
 
 // The header field of a column, made in `field`.
-fn put_head(writer: &mut Writer<Vec<u8>>, column: &Series, field: &mut Vec<u8>) -> PolarsResult<()>
-    ensures ok { OnOk result (TakesField writer.old writer.new (header_field (content (value_of column.now)))) }
-    ensures err { IfErr result IsNoMemory }
+fn put_head(writer: &mut Writer<Vec<u8>>, column: &Series, field: &mut Vec<u8>) -> Result<(), AllocError>
+    ensures {
+        let field = header_field (content (value_of column.now)) in
+        OnOk result (TakesField writer.old writer.new field)
+    }
 {
-    let word = word_of(column.dtype()?);
+    let word = word_of(only_memory(column.dtype())?);
     field.clear();
     field.extend_from_slice(column.name().as_str().as_bytes())?;
     field.push(b':')?;
@@ -74,32 +72,42 @@ fn put_cell(
     column: &Series,
     row: usize,
     null_word: &str,
-) -> PolarsResult<()>
+) -> Result<(), AllocError>
     requires { row < length (value_of column.now).slots }
-    ensures ok { OnOk result (TakesField writer.old writer.new (cell_text null_word.now (slot_at (value_of column.now).slots row))) }
-    ensures err { IfErr result IsNoMemory }
+    ensures {
+        OnOk result (TakesField writer.old writer.new (cell_of null_word.now (value_of column.now) row))
+    }
 {
     let mut digits = Buffer::new();
+    // A column's name is asked for since that call tells its type.
     match column {
-        Series::UInt32(column) => match column.get(row) {
-            Some(number) => put_field(writer, digits.format(number).as_bytes()),
-            None => put_field(writer, null_word.as_bytes()),
-        },
-        Series::Int64(column) => match column.get(row) {
-            Some(number) => put_field(writer, digits.format(number).as_bytes()),
-            None => put_field(writer, null_word.as_bytes()),
-        },
-        Series::String(column) => match column.get(row) {
-            Some(text) => put_field(writer, text.as_bytes()),
-            None => put_field(writer, null_word.as_bytes()),
-        },
+        Series::UInt32(column) => {
+            let _ = column.name();
+            match column.get(row) {
+                Some(number) => put_field(writer, digits.format(number).as_bytes()),
+                None => put_field(writer, null_word.as_bytes()),
+            }
+        }
+        Series::Int64(column) => {
+            let _ = column.name();
+            match column.get(row) {
+                Some(number) => put_field(writer, digits.format(number).as_bytes()),
+                None => put_field(writer, null_word.as_bytes()),
+            }
+        }
+        Series::String(column) => {
+            let _ = column.name();
+            match column.get(row) {
+                Some(text) => put_field(writer, text.as_bytes()),
+                None => put_field(writer, null_word.as_bytes()),
+            }
+        }
     }
 }
 
 // The row of header fields.
-fn put_header(alloc: Global, writer: &mut Writer<Vec<u8>>, columns: &[Series]) -> PolarsResult<()>
-    ensures ok { OnOk result (TakesRows writer.old writer.new (header_line (contents_of columns.now))) }
-    ensures err { IfErr result IsNoMemory }
+fn put_header(alloc: Global, writer: &mut Writer<Vec<u8>>, columns: &[Series]) -> Result<(), AllocError>
+    ensures { OnOk result (TakesRows writer.old writer.new (header_line (contents_of columns.now))) }
 {
     let mut field = Vec::new(alloc);
     for column in columns {
@@ -114,10 +122,12 @@ fn put_row(
     columns: &[Series],
     row: usize,
     null_word: &str,
-) -> PolarsResult<()>
+) -> Result<(), AllocError>
     requires { All (λ column. row < length (value_of column).slots) columns.now }
-    ensures ok { OnOk result (TakesRows writer.old writer.new (row_line null_word.now (contents_of columns.now) row)) }
-    ensures err { IfErr result IsNoMemory }
+    ensures {
+        let line = row_line null_word.now (contents_of columns.now) row in
+        OnOk result (TakesRows writer.old writer.new line)
+    }
 {
     for column in columns {
         put_cell(writer, column, row, null_word)?;
@@ -131,10 +141,12 @@ fn put_rows(
     columns: &[Series],
     height: usize,
     null_word: &str,
-) -> PolarsResult<()>
+) -> Result<(), AllocError>
     requires { All (λ column. length (value_of column).slots ≡ height) columns.now }
-    ensures ok { OnOk result (TakesRows writer.old writer.new (flat_map (row_line null_word.now (contents_of columns.now)) (rows_below height))) }
-    ensures err { IfErr result IsNoMemory }
+    ensures {
+        let line = row_line null_word.now (contents_of columns.now) in
+        OnOk result (TakesRows writer.old writer.new (flat_map line (rows_below height)))
+    }
 {
     for row in 0..height {
         put_row(writer, columns, row, null_word)?;

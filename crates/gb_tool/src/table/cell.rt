@@ -1,9 +1,10 @@
-ghost use Rattle.std.specs.Prelude.{◌≡◌, ◌≤◌, ◌^◌, ◌&&◌, length, nat_lt, option_map, Some, None, if◌then◌else◌};
+//! The number that a cell is.
+
+ghost use Rattle.std.specs.Prelude.{◌≡◌, ◌≤◌, length, option_map};
 ghost use Rattle.std.specs.Int.{w64};
-ghost use Rattle.std.specs.Str.{all_ascii_digits};
-ghost use Rattle.std.specs.Str.Parse.{digits_value, starts_with_minus, without_leading_sign};
+ghost use Rattle.std.specs.Str.Parse.{starts_with_minus, without_leading_sign};
 ghost use Rattle.gb_defs.specs.Slot.{Num};
-ghost use Rattle.gb_defs.specs.Cell.{signed_value};
+ghost use Rattle.gb_defs.specs.Cell.{magnitude, signed_value};
 
 // Whether a minus stands in front, and what stands behind a sign.
 fn without_sign(cell: &[u8]) -> (bool, &[u8])
@@ -24,7 +25,7 @@ fn without_sign(cell: &[u8]) -> (bool, &[u8])
 // The number that at most 19 digits write, None where a byte is no digit.
 fn short_magnitude(digits: &[u8]) -> Option<u64>
     requires { length digits.now ≤ 19 }
-    ensures { result ≡ (if all_ascii_digits digits.now && nat_lt (digits_value 10 digits.now) (2 ^ 64) then Some (digits_value 10 digits.now) else None) }
+    ensures { result ≡ magnitude digits.now }
 {
     let mut value: u64 = 0;
     for digit in digits {
@@ -38,7 +39,7 @@ fn short_magnitude(digits: &[u8]) -> Option<u64>
 
 // The number that digits write, None where a byte is no digit or 64 bits are too few.
 fn long_magnitude(digits: &[u8]) -> Option<u64>
-    ensures { result ≡ (if all_ascii_digits digits.now && nat_lt (digits_value 10 digits.now) (2 ^ 64) then Some (digits_value 10 digits.now) else None) }
+    ensures { result ≡ magnitude digits.now }
 {
     let mut value: u64 = 0;
     for digit in digits {
@@ -54,7 +55,7 @@ fn long_magnitude(digits: &[u8]) -> Option<u64>
 
 // The same. Few digits need no look at whether they fit.
 fn magnitude_of(digits: &[u8]) -> Option<u64>
-    ensures { result ≡ (if all_ascii_digits digits.now && nat_lt (digits_value 10 digits.now) (2 ^ 64) then Some (digits_value 10 digits.now) else None) }
+    ensures { result ≡ magnitude digits.now }
 {
     if digits.len() <= 19 {
         return short_magnitude(digits);
@@ -62,7 +63,8 @@ fn magnitude_of(digits: &[u8]) -> Option<u64>
     long_magnitude(digits)
 }
 
-/// The number that a cell is.
+/// The number that a cell is, with an optional sign. None where it is no number or needs more than 64
+/// bits.
 pub fn number_of(cell: &[u8]) -> Option<i64>
     ensures { option_map (λ n. Num n) result ≡ signed_value w64 cell.now }
 {

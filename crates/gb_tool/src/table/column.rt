@@ -1,32 +1,37 @@
-ghost use Rattle.std.specs.Prelude.{◌≡◌, IfOk, IfErr, OnErr, All, MatchOption, map, true};
-ghost use Rattle.std.specs.Bool.{OnTrue, OnFalse};
+//! The cells of a record, put at the ends of the columns.
+
+ghost use Rattle.std.specs.Prelude.{◌≡◌, Ok, IfOk, IfErr, OnOk, OnErr, All, MatchOption, map, true};
+ghost use Rattle.std.specs.Bool.{OnFalse};
 ghost use Rattle.std.specs.Str.{IsUtf8};
 ghost use Rattle.gb_defs.specs.ColumnType.{int64, text};
-ghost use Rattle.gb_cols.specs.PlSmallStr.{IsNoMemory};
 ghost use Rattle.gb_series.specs.Series.{value_of};
 ghost use Rattle.csv.specs.Records.{AllText, fields_of};
-ghost use Rattle.gb_tool.specs.Table.{HasRoom, IsTyped, columns_with, column_with, if_taken};
+ghost use Rattle.gb_tool.specs.Refusal.{IsRefusedTable};
+ghost use Rattle.gb_tool.specs.Table.{HasRoom, IsTyped, TakesCell, columns_with};
 
+use crate::status::{TableError, TableFault};
 use crate::table::cell::number_of;
+use crate::table::only_memory;
 use csv::ByteRecord;
 use gb_cols::chunked::{Int64Chunked, StringChunked};
-use gb_cols::error::PolarsResult;
 use gb_series::series::Series;
 use std::alloc::AllocError;
 
-// Whether the fields are known to be texts, by one look at the bytes of the record.
-fn is_plain(row: &ByteRecord) -> bool
-    ensures { result ≡ true → AllText (fields_of row.now) }
+// Whether all bytes of the record are ASCII, by one look at them.
+fn is_ascii(fields: &ByteRecord) -> bool
+    ensures { result ≡ true → AllText (fields_of fields.now) }
 {
-    row.as_slice().is_ascii()
+    fields.as_slice().is_ascii()
 }
 
 // The text that a cell is, with no look at a cell that is known to be one.
-fn as_text(cell: &[u8], known: bool) -> Option<&str>
-    requires { known ≡ true → IsUtf8 cell.now }
-    ensures { MatchOption result (¬ (IsUtf8 cell.now)) (λ text. (text.now ≡ cell.now) × IsUtf8 cell.now) }
+fn as_text(cell: &[u8], is_text: bool) -> Option<&str>
+    requires { is_text ≡ true → IsUtf8 cell.now }
+    ensures {
+        MatchOption result (¬ (IsUtf8 cell.now)) (λ text. (text.now ≡ cell.now) × IsUtf8 cell.now)
+    }
 {
-    if known {
+    if is_text {
         return Some(unsafe { str::from_utf8_unchecked(cell) });
     }
     str::from_utf8(cell).ok()
@@ -37,23 +42,19 @@ fn as_text(cell: &[u8], known: bool) -> Option<&str>
 fn push_number(column: &mut Int64Chunked, cell: &[u8], null_word: &str) -> Result<bool, AllocError>
     requires dtype { column.old.dtype ≡ int64 }
     requires room { HasRoom column.old }
-    ensures ok { IfOk result (λ took. if_taken took column.new ≡ column_with null_word.now column.old cell.now) }
+    ensures ok { IfOk result (TakesCell null_word.now column.old column.new cell.now) }
     ensures refused { IfOk result (λ took. OnFalse took (column.new ≡ column.old)) }
     ensures dtype { column.new.dtype ≡ column.old.dtype }
     ensures unchanged { OnErr result (column.new ≡ column.old) }
 {
     if cell == null_word.as_bytes() {
-        let Ok(()) = column.push_null() else {
-            return Err(AllocError);
-        };
+        only_memory(column.push_null())?;
         return Ok(true);
     }
     let Some(number) = number_of(cell) else {
         return Ok(false);
     };
-    let Ok(()) = column.push(Some(number)) else {
-        return Err(AllocError);
-    };
+    only_memory(column.push(Some(number)))?;
     Ok(true)
 }
 
@@ -62,29 +63,25 @@ fn push_number(column: &mut Int64Chunked, cell: &[u8], null_word: &str) -> Resul
 fn push_text(
     column: &mut StringChunked,
     cell: &[u8],
-    known: bool,
+    is_text: bool,
     null_word: &str,
 ) -> Result<bool, AllocError>
     requires dtype { column.old.dtype ≡ text }
     requires room { HasRoom column.old }
-    requires known { known ≡ true → IsUtf8 cell.now }
-    ensures ok { IfOk result (λ took. if_taken took column.new ≡ column_with null_word.now column.old cell.now) }
+    requires is_text { is_text ≡ true → IsUtf8 cell.now }
+    ensures ok { IfOk result (TakesCell null_word.now column.old column.new cell.now) }
     ensures refused { IfOk result (λ took. OnFalse took (column.new ≡ column.old)) }
     ensures dtype { column.new.dtype ≡ column.old.dtype }
     ensures unchanged { OnErr result (column.new ≡ column.old) }
 {
     if cell == null_word.as_bytes() {
-        let Ok(()) = column.push_null() else {
-            return Err(AllocError);
-        };
+        only_memory(column.push_null())?;
         return Ok(true);
     }
-    let Some(text) = as_text(cell, known) else {
+    let Some(text) = as_text(cell, is_text) else {
         return Ok(false);
     };
-    let Ok(()) = column.push(Some(text)) else {
-        return Err(AllocError);
-    };
+    only_memory(column.push(Some(text)))?;
     Ok(true)
 }
 
@@ -94,42 +91,59 @@ fn push_text(
 pub fn push_cell(
     column: &mut Series,
     cell: &[u8],
-    known: bool,
+    is_text: bool,
     null_word: &str,
 ) -> Result<bool, AllocError>
     requires typed { IsTyped column.old }
     requires room { HasRoom (value_of column.old) }
-    requires known { known ≡ true → IsUtf8 cell.now }
-    ensures ok { IfOk result (λ took. if_taken took (value_of column.new) ≡ column_with null_word.now (value_of column.old) cell.now) }
+    requires is_text { is_text ≡ true → IsUtf8 cell.now }
+    ensures ok {
+        IfOk result (TakesCell null_word.now (value_of column.old) (value_of column.new) cell.now)
+    }
     ensures typed { IsTyped column.new }
 {
     match column {
         Series::UInt32(_) => unreachable!(),
         Series::Int64(column) => push_number(column, cell, null_word),
-        Series::String(column) => push_text(column, cell, known, null_word),
+        Series::String(column) => push_text(column, cell, is_text, null_word),
     }
 }
 
-/// Puts the cells of a record at the ends of the columns, and says whether there are as many and each
-/// reads. Where not, some columns may have a slot more.
-pub fn push_record(columns: &mut [Series], row: &ByteRecord, null_word: &str) -> PolarsResult<bool>
+/// Puts the cells of the record of this row at the ends of the columns, or tells its first fault:
+/// another number of fields than columns, or a cell that does not read. After a fault some columns may
+/// have a slot more.
+pub fn push_record(
+    columns: &mut [Series],
+    fields: &ByteRecord,
+    row: u64,
+    null_word: &str,
+) -> Result<(), TableError>
     requires typed { All IsTyped columns.old }
     requires room { All (λ column. HasRoom (value_of column)) columns.old }
-    ensures ok { IfOk result (λ took. if_taken took (map value_of columns.new) ≡ columns_with null_word.now (map value_of columns.old) (fields_of row.now)) }
-    ensures typed { IfOk result (λ took. OnTrue took (All IsTyped columns.new)) }
-    ensures err { IfErr result IsNoMemory }
-{
-    if row.len() != columns.len() {
-        return Ok(false);
+    ensures ok {
+        let frame = columns_with null_word.now row (map value_of columns.old) (fields_of fields.now) in
+        OnOk result (frame ≡ Ok (map value_of columns.new))
     }
-    let plain = is_plain(row);
+    ensures typed { OnOk result (All IsTyped columns.new) }
+    ensures err {
+        let frame = columns_with null_word.now row (map value_of columns.old) (fields_of fields.now) in
+        IfErr result (λ e. IsRefusedTable e frame)
+    }
+{
+    let found = fields.len();
+    let wanted = columns.len();
+    if found != wanted {
+        let fault = TableFault::Ragged(row, found as u64, wanted as u64);
+        return Err(TableError::Fault(fault));
+    }
+    let is_text = is_ascii(fields);
     for (place, column) in columns.iter_mut().enumerate() {
-        let Some(cell) = row.get(place) else {
-            return Ok(false);
+        let Some(cell) = fields.get(place) else {
+            unreachable!();
         };
-        if !push_cell(column, cell, plain, null_word)? {
-            return Ok(false);
+        if !push_cell(column, cell, is_text, null_word)? {
+            return Err(TableError::Fault(TableFault::BadCell(row, place as u64 + 1)));
         }
     }
-    Ok(true)
+    Ok(())
 }

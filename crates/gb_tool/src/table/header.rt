@@ -1,29 +1,31 @@
-ghost use Rattle.std.specs.Prelude.{◌≡◌, [], true, map, option_map, IfOk, IfErr, IfSome, All};
+//! The columns that a header names.
+
+ghost use Rattle.std.specs.Prelude.{◌≡◌, [], true, map, IfOk, IfErr, All, Ok};
 ghost use Rattle.gb_defs.specs.Cell.{is_read};
 ghost use Rattle.gb_defs.specs.Column.{fresh_column};
 ghost use Rattle.gb_cols.specs.DataType.{type_of};
-ghost use Rattle.gb_cols.specs.PlSmallStr.{IsNoMemory};
 ghost use Rattle.gb_series.specs.Series.{value_of};
+ghost use Rattle.gb_tool.specs.Refusal.{IsRefusedTable};
 ghost use Rattle.gb_tool.specs.Table.{IsTyped, columns_of_header as frame_of_header};
 ghost use Rattle.csv.specs.Records.{fields_of};
 
-use crate::table::head::read_field;
+use crate::status::{TableError, TableFault};
+use crate::table::header_field::read_field;
+use crate::table::only_memory;
 use csv::ByteRecord;
 use gb_cols::chunked::{Int64Chunked, StringChunked, UInt32Chunked};
 use gb_cols::data_type::DataType;
-use gb_cols::error::PolarsResult;
 use gb_cols::small_str::PlSmallStr;
 use gb_series::series::Series;
-use std::alloc::Global;
+use std::alloc::{AllocError, Global};
 use std::collections::HashSet;
 
 // A column with no slots.
-fn empty_column(alloc: Global, name: &str, dtype: DataType) -> PolarsResult<Series>
-    ensures ok { IfOk result (λ column. value_of column ≡ fresh_column name.now (type_of dtype) []) }
-    ensures typed { IfOk result (λ column. is_read (type_of dtype) ≡ true → IsTyped column) }
-    ensures err { IfErr result IsNoMemory }
+fn empty_column(alloc: Global, name: &str, dtype: DataType) -> Result<Series, AllocError>
+    ensures ok { IfOk result (λ c. value_of c ≡ fresh_column name.now (type_of dtype) []) }
+    ensures typed { IfOk result (λ c. is_read (type_of dtype) ≡ true → IsTyped c) }
 {
-    let name = PlSmallStr::from_str(alloc, name)?;
+    let name = only_memory(PlSmallStr::from_str(alloc, name))?;
     Ok(match dtype {
         DataType::UInt32 => Series::UInt32(UInt32Chunked::new(alloc, name)),
         DataType::Int64 => Series::Int64(Int64Chunked::new(alloc, name)),
@@ -31,23 +33,27 @@ fn empty_column(alloc: Global, name: &str, dtype: DataType) -> PolarsResult<Seri
     })
 }
 
-/// The columns that a header names, with no slots. None where a field is at fault, or names a type of
-/// which no cell is read.
-pub fn columns_of_header(alloc: Global, header: &ByteRecord) -> PolarsResult<Option<Vec<Series>>>
-    ensures ok { IfOk result (λ columns. option_map (λ cs. map value_of cs.items) columns ≡ frame_of_header (fields_of header.now)) }
-    ensures typed { IfOk result (λ columns. IfSome columns (λ cs. All IsTyped cs.items)) }
-    ensures err { IfErr result IsNoMemory }
+/// The columns that a header names, with no slots, or its first fault: a field that does not read, or
+/// the name of a column before.
+pub fn columns_of_header(alloc: Global, header: &ByteRecord) -> Result<Vec<Series>, TableError>
+    ensures ok {
+        let frame = frame_of_header (fields_of header.now) in
+        IfOk result (λ columns. frame ≡ Ok (map value_of columns.items))
+    }
+    ensures typed { IfOk result (λ columns. All IsTyped columns.items) }
+    ensures err { IfErr result (λ e. IsRefusedTable e (frame_of_header (fields_of header.now))) }
 {
     let mut columns = Vec::with_capacity(alloc, header.len())?;
     let mut seen: HashSet<&str> = HashSet::new(alloc);
     for field in header {
+        let place = columns.len() as u64 + 1;
         let Some((name, dtype)) = read_field(field) else {
-            return Ok(None);
+            return Err(TableError::Fault(TableFault::BadCell(0, place)));
         };
         if !seen.insert(name)? {
-            return Ok(None);
+            return Err(TableError::Fault(TableFault::SameName(place)));
         }
         columns.push(empty_column(alloc, name, dtype)?)?;
     }
-    Ok(Some(columns))
+    Ok(columns)
 }

@@ -1,16 +1,14 @@
 //! A table with no quote and no carriage return, read in place. Whatever is not so plain is left to
 //! `csv`, which reads the same records more slowly.
 
-ghost use Rattle.std.specs.Prelude.{◌≡◌, ◌≢◌, ◌≤◌, [], true, length, map, All, IfErr, IfOk, IfSome, Some};
+ghost use Rattle.std.specs.Prelude.{◌≡◌, ◌≢◌, ◌≤◌, true, length, map, All, IfErr, IfOk, IfSome, Ok};
 ghost use Rattle.std.specs.Bool.{OnTrue};
 ghost use Rattle.std.specs.Str.{IsAscii};
-ghost use Rattle.csv.specs.Machine.{next_record};
-ghost use Rattle.csv.specs.Reading.{default_config};
 ghost use Rattle.csv.specs.Records.{fields_of};
-ghost use Rattle.csv.specs.declared.parser.State.TheVariants as st;
-ghost use Rattle.gb_defs.specs.Table.{readable_table};
+ghost use Rattle.gb_defs.specs.Table.{table};
 ghost use Rattle.gb_series.specs.Series.{value_of};
-ghost use Rattle.gb_tool.specs.Plain.{IsCut, TakesLine};
+ghost use Rattle.gb_tool.specs.Plain.{BeginsWith, IsCut, TakesLine};
+ghost use Rattle.gb_tool.specs.Refusal.{IsRefusedTable};
 ghost use Rattle.gb_tool.specs.Table.{HasRoom, IsTyped};
 
 use crate::status::TableError;
@@ -47,17 +45,19 @@ fn next_cell(text: &[u8]) -> Option<(&[u8], &[u8], bool)>
 
 // The record in front of a text, and the text behind it.
 fn plain_header(alloc: Global, text: &[u8]) -> Result<Option<(ByteRecord, &[u8])>, AllocError>
-    ensures { IfOk result (λ found. IfSome found (λ h. next_record default_config st.StartField [] [] text.now ≡ Some (fields_of h.0, st.StartRecord, h.1.now))) }
+    ensures {
+        IfOk result (λ found. IfSome found (λ h. BeginsWith (fields_of h.0) text.now h.1.now))
+    }
 {
-    let mut row = ByteRecord::new(alloc);
+    let mut fields = ByteRecord::new(alloc);
     let mut left = text;
     for _ in 0..u64::MAX {
         let Some((cell, rest, last)) = next_cell(left) else {
             return Ok(None);
         };
-        row.push_field(cell)?;
+        fields.push_field(cell)?;
         if last {
-            return Ok(Some((row, rest)));
+            return Ok(Some((fields, rest)));
         }
         left = rest;
     }
@@ -69,15 +69,19 @@ fn plain_header(alloc: Global, text: &[u8]) -> Result<Option<(ByteRecord, &[u8])
 fn push_line<'a>(
     columns: &mut [Series],
     text: &'a [u8],
-    known: bool,
+    ascii: bool,
     null_word: &str,
 ) -> Result<Option<&'a [u8]>, AllocError>
     requires typed { All IsTyped columns.old }
     requires room { All (λ column. HasRoom (value_of column)) columns.old }
-    requires known { known ≡ true → IsAscii text.now }
-    ensures ok { IfOk result (λ found. IfSome found (λ rest. TakesLine null_word.now (map value_of columns.old) (map value_of columns.new) text.now rest.now)) }
+    requires ascii { ascii ≡ true → IsAscii text.now }
+    ensures ok {
+        let old = map value_of columns.old in
+        let new = map value_of columns.new in
+        IfOk result (λ found. IfSome found (λ rest. TakesLine null_word.now old new text.now rest.now))
+    }
     ensures typed { IfOk result (λ found. IfSome found (λ _. All IsTyped columns.new)) }
-    ensures known { IfOk result (λ found. IfSome found (λ rest. known ≡ true → IsAscii rest.now)) }
+    ensures ascii { IfOk result (λ found. IfSome found (λ rest. ascii ≡ true → IsAscii rest.now)) }
 {
     let mut left = text;
     let mut ended = false;
@@ -88,7 +92,7 @@ fn push_line<'a>(
         let Some((cell, rest, last)) = next_cell(left) else {
             return Ok(None);
         };
-        if !push_cell(column, cell, known, null_word)? {
+        if !push_cell(column, cell, ascii, null_word)? {
             return Ok(None);
         }
         left = rest;
@@ -107,15 +111,18 @@ fn begins_record(first: u8) -> bool
     first != b'\n' && first != b'\r'
 }
 
-/// The frame that the bytes are, where they are plain and read.
+/// The frame that the bytes are, where they are plain and every record reads. A fault of a plain header
+/// is told here, and one behind it is left to `csv`.
 pub fn plain_table(
     alloc: Global,
     bytes: &[u8],
     null_word: &str,
 ) -> Result<Option<DataFrame>, TableError>
     requires { length bytes.now ≤ 4294967295 }
-    ensures ok { IfOk result (λ found. IfSome found (λ frame. readable_table bytes.now null_word.now ≡ Some frame)) }
-    ensures err { IfErr result (λ e. e ≡ TableError.NoMemory) }
+    ensures ok {
+        IfOk result (λ found. IfSome found (λ frame. table bytes.now null_word.now ≡ Ok frame))
+    }
+    ensures err { IfErr result (λ e. IsRefusedTable e (table bytes.now null_word.now)) }
 {
     // A byte order mark begins with this byte.
     if bytes.is_empty() || bytes[0] == 0xEF || !begins_record(bytes[0]) {
@@ -124,10 +131,8 @@ pub fn plain_table(
     let Some((header, rest)) = plain_header(alloc, bytes)? else {
         return Ok(None);
     };
-    let Some(mut columns) = columns_of_header(alloc, &header)? else {
-        return Ok(None);
-    };
-    let known = rest.is_ascii();
+    let mut columns = columns_of_header(alloc, &header)?;
+    let ascii = rest.is_ascii();
     let mut left = rest;
     for _ in 0..u64::MAX {
         if left.is_empty() {
@@ -136,7 +141,7 @@ pub fn plain_table(
         if !begins_record(left[0]) {
             return Ok(None);
         }
-        let Some(rest) = push_line(&mut columns, left, known, null_word)? else {
+        let Some(rest) = push_line(&mut columns, left, ascii, null_word)? else {
             return Ok(None);
         };
         left = rest;

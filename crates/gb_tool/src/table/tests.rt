@@ -1,3 +1,5 @@
+//! Tables that read, and faults at their places.
+
 use super::table_of;
 use crate::status::{TableError, TableFault};
 use gb_series::frame::DataFrame;
@@ -41,40 +43,56 @@ fn shown(alloc: Global, frame: &DataFrame) -> Result<String, AllocError> {
 #[test]
 fn tables_and_faults(rt: HostRuntime) -> Result<(), Fail> {
     let alloc = rt.alloc();
-    for (text, null_word, want) in [
+    let cases: [(&[u8], &str, Result<&str, TableFault>); 28] = [
         (
-            "date,temp:i64\n2020-08-21,20\n2020-08-22,-7\n",
+            b"date,temp:i64\n2020-08-21,20\n2020-08-22,-7\n",
             "",
-            Some("date|2020-08-21|2020-08-22;temp|20|-7;"),
+            Ok("date|2020-08-21|2020-08-22;temp|20|-7;"),
         ),
-        ("k,v:i64\n,5\n1,6\n,7\n", "", Some("k|null|1|null;v|5|6|7;")),
-        (
-            "a:b:str,k:i64\nna,na\n\"q,\"\"\",+7\n",
-            "na",
-            Some("a:b|null|q,\";k|null|7;"),
-        ),
-        ("\u{FEFF}k:i64\r\n9\r\n", "", Some("k|9;")),
-        ("k:i64\n", "", Some("k;")),
-        ("k:i65\nx", "", Some("k:i65|x;")),
-        ("", "", None),
-        ("a,a\n", "", None),
-        ("a,b\n1\n", "", None),
-        ("a,b\n1,2,3\n", "", None),
-        ("k:i64\n12x\n", "", None),
-        ("k:i64\n9223372036854775808\n", "", None),
-        ("k,v:dec38\n", "", None),
-    ] {
-        match table_of(alloc, text.as_bytes(), null_word) {
-            Ok(frame) => assert_eq!(rt; Some(shown(alloc, &frame)?.as_str()), want, "at {text}"),
-            Err(e) => {
-                assert!(rt;
-                    matches!(e, TableError::Fault(TableFault::BadCell(0, 0))),
-                    "at {text}"
-                );
-                assert_eq!(rt; want, None, "at {text}");
+        (b"k,v:i64\n,5\n1,6\n,7\n", "", Ok("k|null|1|null;v|5|6|7;")),
+        (b"a:b:str,k:i64\nna,na\n\"q,\"\"\",+7\n", "na", Ok("a:b|null|q,\";k|null|7;")),
+        (b"\xEF\xBB\xBFk:i64\r\n9\r\n", "", Ok("k|9;")),
+        (b"k:i64\n", "", Ok("k;")),
+        (b"k:i65\nx", "", Ok("k:i65|x;")),
+        // The header.
+        (b"", "", Err(TableFault::NoHeader)),
+        (b"\n\n", "", Err(TableFault::NoHeader)),
+        (b"a,a:i64\n", "", Err(TableFault::SameName(2))),
+        (b"k,\xFF\n", "", Err(TableFault::BadCell(0, 2))),
+        (b"\xFF,k,k\n", "", Err(TableFault::BadCell(0, 1))),
+        (b"k,v:i32\n", "", Err(TableFault::BadCell(0, 2))),
+        (b"k,v:dec38\n", "", Err(TableFault::BadCell(0, 2))),
+        (b"k,k,v:i32\n", "", Err(TableFault::SameName(2))),
+        (b"\r\n\"a\",b,a\n", "", Err(TableFault::SameName(3))),
+        // Records below it.
+        (b"k,v:i64\na,1\nb\nc,x\n", "", Err(TableFault::Ragged(2, 1, 2))),
+        (b"a,b\n1,2,3\n", "", Err(TableFault::Ragged(1, 3, 2))),
+        (b"k:i64\n1\n12x\n", "", Err(TableFault::BadCell(2, 1))),
+        (b"k:i64\n9223372036854775808\n", "", Err(TableFault::BadCell(1, 1))),
+        (b"k\n\xFF\n", "", Err(TableFault::BadCell(1, 1))),
+        (b"k,v:i64\na,1\nb,\n", "na", Err(TableFault::BadCell(2, 2))),
+        (b"k,v:i64\nx,y,z\na,b\n", "", Err(TableFault::Ragged(1, 3, 2))),
+        // Behind a quoted field, and behind a line end inside one.
+        (b"k,v:i64\n\"a,\",1\nb,x\n", "", Err(TableFault::BadCell(2, 2))),
+        (b"k,v:i64\n\"a\n\n\",1\nb\n", "", Err(TableFault::Ragged(2, 1, 2))),
+        // Blank lines are no records.
+        (b"k,v:i64\n\n\na,1\n\nb,x\n", "", Err(TableFault::BadCell(2, 2))),
+        (b"k:i64\r\n\r\n1\r\nx\r\n", "", Err(TableFault::BadCell(2, 1))),
+        (b"\n\nk,k\n", "", Err(TableFault::SameName(2))),
+        // A blank line where a field is wanted is no record either.
+        (b"k:i64\n\n", "na", Ok("k;")),
+    ];
+    for (text, null_word, want) in cases {
+        match table_of(alloc, text, null_word) {
+            Ok(frame) => {
+                let shown = shown(alloc, &frame)?;
+                assert!(rt; want == Ok(shown.as_str()), "at {text:?}: {shown}");
             }
+            Err(TableError::Fault(fault)) => {
+                assert!(rt; want == Err(fault), "at {text:?}: {fault:?}");
+            }
+            Err(TableError::NoMemory) => return Err(Fail::from(AllocError)),
         }
     }
-    assert!(rt; matches!(table_of(alloc, b"k\n\xFF\n", ""), Err(TableError::Fault(_))));
     Ok(())
 }

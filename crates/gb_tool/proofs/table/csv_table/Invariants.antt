@@ -1,5 +1,5 @@
 use Rattle.gb_tool.proofs.TakingLemmas.{IsTaking}
 use Rattle.gb_tool.proofs.table.csv_table.Given as goal
 
-abbrev pub invariant-loop : goal.invariant-loop
-invariant-loop l = IsTaking l.fn.null_word l.fn.bytes l.columns.items l.reader
+abbrev pub invariant-loop-row : goal.invariant-loop-row
+invariant-loop-row l = IsTaking l.fn.null_word l.fn.bytes l.row l.columns.items l.reader

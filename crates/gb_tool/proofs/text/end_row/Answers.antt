@@ -2,8 +2,8 @@ use Rattle.gb_tool.proofs.TextLemmas.{begun_next}
 use Rattle.gb_tool.proofs.text.end_row.Goals as goal
 use Rattle.gb_tool.proofs.text.end_row.Goals.{in-Ok, in-Err}
 
-pub returns-clause-ok : goal.returns-clause-ok
-returns-clause-ok c =
+pub returns : goal.returns
+returns c =
     elim c.match-end_record.branch [
       | in-Ok w ↦ let says = w.in-Ok.ensures in
           rw w.result-is (λ before fields h. begun_next _ _ before fields says.bytes says.fields says.wrote says.same h)

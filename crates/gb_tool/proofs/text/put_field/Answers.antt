@@ -2,8 +2,8 @@ use Rattle.gb_tool.proofs.TextLemmas.{begun_more}
 use Rattle.gb_tool.proofs.text.put_field.Goals as goal
 use Rattle.gb_tool.proofs.text.put_field.Goals.{in-Ok, in-Err}
 
-pub returns-clause-ok : goal.returns-clause-ok
-returns-clause-ok c =
+pub returns : goal.returns
+returns c =
     elim c.match-write_field.branch [
       | in-Ok w ↦ let says = w.in-Ok.ensures in
           rw w.result-is (λ before fields few h. begun_more _ _ _ before fields says.text says.same says.count says.wrote says.stays few h)

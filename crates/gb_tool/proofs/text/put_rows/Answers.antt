@@ -12,4 +12,4 @@ loop-row-preserved c = λ before begun.
     let line = row_line c.args.null_word.now (contents_of c.args.columns.now) in
     let row = c.loop-row.row in
     let more = flat_map_more line before (rows_below row) row ∙ ap (λ rows. before ++ flat_map line rows) (sym (rows_below_more row)) in
-    subst (λ (text : List ℕ). HasBegun c.put_row.new.writer text []) more (c.in_ok-put_row.ensures.ok _ (c.loop-row.invariant before begun))
+    subst (λ (text : List ℕ). HasBegun c.put_row.new.writer text []) more (c.in_ok-put_row.ensures _ (c.loop-row.invariant before begun))

@@ -15,6 +15,6 @@ returns-in-Ok-clause-ok c =
     let from = c.from_writer-writer.ensures in
     let columns = c.get_columns-columns.result.now in
     let none = begun_none c.from_writer-writer.result (from.cfg ∙ c.new-2.ensures) (rw from.wtr c.new-3.ensures.items) from.empty from.fields from.wrote in
-    let all = c.in_ok-put_rows.ensures.ok _ (c.in_ok-put_header.ensures.ok _ none) in
+    let all = c.in_ok-put_rows.ensures _ (c.in_ok-put_header.ensures _ none) in
     let text = text_is columns c.args.frame.now c.args.null_word.now c.get_columns-columns.ensures (some_columns (length columns) c.if-is_empty.ensures) in
     begun_all c.put_rows.new.writer _ c.in-Ok.text.items all c.in-Ok.ensures.ok ∙ sym (rw (← c.height.ensures.value) at text)

@@ -1,45 +1,47 @@
-use Rattle.std.proofs.Common.{◌≢◌, ◌∙◌, map, ◌<◌, length, get_or, sym, arith}
+use Rattle.std.proofs.Common.{◌≡◌, ◌≢◌, ◌∙◌, map, ◌<◌, length, get_or, sym, ap, arith, subst}
 use Rattle.std.proofs.lemmas.List.{length-map, map-set, get_or-map, get_or-set_other, length-set}
 use Rattle.std.proofs.lemmas.List.Elements.{All-set}
 use Rattle.csv.specs.Records.{fields_of}
 use Rattle.gb_series.specs.Series.{value_of}
 use Rattle.gb_tool.specs.Table.{IsTyped}
-use Rattle.gb_tool.proofs.PushLemmas.{columns_ragged, field_some, text_at, pushing_none, pushing_bad, pushing_more, pushing_all}
+use Rattle.gb_tool.proofs.PushLemmas.{columns_ragged, field_some, text_at, passing_none, pushing_bad, pushing_more, pushing_all}
 use Rattle.gb_tool.proofs.table.column.push_record.Goals as goal
 
-pub returns-then-len-columns-clause-ok : goal.returns-then-len-columns-clause-ok
-returns-then-len-columns-clause-ok c =
-    sym (columns_ragged c.args.null_word.now (map value_of c.args.columns.now) (fields_of c.args.row.now)
-    (λ e. c.if-len-columns.true (c.len.ensures ∙ e ∙ length-map c.args.columns.now value_of)))
+pub returns-then-found-wanted-clause-err : goal.returns-then-found-wanted-clause-err
+returns-then-found-wanted-clause-err c =
+    let few = length-map c.args.columns.now value_of in
+    let ragged = columns_ragged c.args.null_word.now c.args.row (map value_of c.args.columns.now) (fields_of c.args.fields.now) (λ e. c.if-found-wanted.true (c.len-found.ensures ∙ e ∙ few)) in
+    rw c.len-found.ensures (rw few at ragged)
+
+pub unreachable-requires : goal.unreachable-requires
+unreachable-requires c =
+    field_some (fields_of c.args.fields.now) c.loop-place.place (omega (arith, c.len-found.ensures, c.if-found-wanted.false, c.loop-place-test.true)) c.in_default.ensures.value
 
 pub loop-place-init : goal.loop-place-init
 loop-place-init c = record {
-  pushing = pushing_none c.args.null_word.now (map value_of c.args.columns.now) (fields_of c.args.row.now);
+  passing = passing_none c.args.null_word.now (map value_of c.args.columns.now);
   typed = c.requires.typed;
   room = λ k d low lt. c.requires.room k d lt;
 }
-
-pub returns-in_default-clause-ok : goal.returns-in_default-clause-ok
-returns-in_default-clause-ok c =
-    absurd (field_some (fields_of c.args.row.now) c.loop-place.place (omega (arith, c.len.ensures, c.if-len-columns.false, c.loop-place-test.true)) c.in_default.ensures.value)
 
 pub push_cell-requires : goal.push_cell-requires
 push_cell-requires c = record {
   typed = c.loop-place.invariant.typed c.loop-place.place c.index-columns-place.result (omega arith);
   room = c.loop-place.invariant.room c.loop-place.place c.index-columns-place.result (omega arith) (omega arith);
-  known = λ plain. text_at (fields_of c.args.row.now) c.loop-place.place c.in-Some.cell.now (c.is_plain-plain.ensures plain) (sym c.in-Some.ensures.value);
+  is_text = λ ascii. text_at (fields_of c.args.fields.now) c.loop-place.place c.in-Some.cell.now (c.is_ascii-is_text.ensures ascii) (sym c.in-Some.ensures.value);
 }
 
-pub returns-then-not-branch-clause-ok : goal.returns-then-not-branch-clause-ok
-returns-then-not-branch-clause-ok c =
+pub returns-then-not-branch-clause-err : goal.returns-then-not-branch-clause-err
+returns-then-not-branch-clause-err c =
     let now = c.loop-place.columns in
     let column = get_or now c.loop-place.place c.index-columns-place.result in
     let within : c.loop-place.place < length now = omega arith in
     let lt : c.loop-place.place < length (map value_of now) = omega (arith, length-map now value_of, within) in
     let at = sym (get_or-map value_of now c.loop-place.place c.index-columns-place.result (value_of column) within) in
     let bad = rw c.if-not-branch.true at c.in_ok-push_cell.ensures.ok in
-    sym (pushing_bad c.args.null_word.now (map value_of c.args.columns.now) (fields_of c.args.row.now) c.loop-place.place (map value_of now) (value_of column) c.in-Some.cell.now
-    c.loop-place.invariant.pushing lt at (sym c.in-Some.ensures.value) (sym bad))
+    let long : length (fields_of c.args.fields.now) ≡ length (map value_of c.args.columns.now) = sym c.len-found.ensures ∙ c.if-found-wanted.false ∙ sym (length-map c.args.columns.now value_of) in
+    pushing_bad c.args.null_word.now (map value_of c.args.columns.now) (fields_of c.args.fields.now) c.loop-place.place (map value_of now) c.loop-place.invariant.passing
+    (value_of column) c.in-Some.cell.now lt at (sym c.in-Some.ensures.value) c.args.row long (sym bad)
 
 pub loop-place-preserved : goal.loop-place-preserved
 loop-place-preserved c =
@@ -50,8 +52,8 @@ loop-place-preserved c =
     let at = sym (get_or-map value_of now c.loop-place.place c.index-columns-place.result (value_of column) within) in
     let good = rw c.if-not-branch.false at c.in_ok-push_cell.ensures.ok in
     record {
-      pushing = rw (map-set value_of now c.loop-place.place c.push_cell.new.column) (pushing_more c.args.null_word.now (map value_of c.args.columns.now) (fields_of c.args.row.now)
-          c.loop-place.place (map value_of now) (value_of column) c.in-Some.cell.now c.loop-place.invariant.pushing lt at (sym c.in-Some.ensures.value) (value_of c.push_cell.new.column) (sym good));
+      passing = rw (map-set value_of now c.loop-place.place c.push_cell.new.column) (pushing_more c.args.null_word.now (map value_of c.args.columns.now) (fields_of c.args.fields.now)
+          c.loop-place.place (map value_of now) c.loop-place.invariant.passing (value_of column) c.in-Some.cell.now lt at (sym c.in-Some.ensures.value) (value_of c.push_cell.new.column) (sym good));
       typed = All-set IsTyped now c.loop-place.place c.push_cell.new.column c.in_ok-push_cell.ensures.typed c.loop-place.invariant.typed;
       room = λ k d low high.
           let other : k ≢ c.loop-place.place = omega (arith, low) in
@@ -61,5 +63,6 @@ loop-place-preserved c =
 
 pub returns-clause-ok : goal.returns-clause-ok
 returns-clause-ok c =
-    sym (pushing_all c.args.null_word.now (map value_of c.args.columns.now) (fields_of c.args.row.now) c.loop-place.place (map value_of c.loop-place.columns) c.loop-place.invariant.pushing
-    (omega (arith, length-map c.loop-place.columns value_of)) (omega (arith, c.len.ensures, c.if-len-columns.false)))
+    let now = c.loop-place.columns in
+    pushing_all c.args.null_word.now (map value_of c.args.columns.now) (fields_of c.args.fields.now) c.loop-place.place (map value_of now) c.loop-place.invariant.passing
+    (omega (arith, c.len-found.ensures, c.if-found-wanted.false)) c.args.row (omega (arith, length-map now value_of)) (omega (arith, length-map now value_of))

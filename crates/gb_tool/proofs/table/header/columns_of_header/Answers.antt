@@ -1,6 +1,6 @@
-use Rattle.std.proofs.Common.{◌≡◌, ◌∙◌, ◌∷◌, [], map, ℕ, List, Some, sym, ap, true, cond}
+use Rattle.std.proofs.Common.{◌≡◌, ◌∙◌, ◌∷◌, ◌+◌, [], map, suc, ℕ, List, Some, sym, ap, true, cond, arith}
 use Rattle.std.specs.Str.{bytes_eq}
-use Rattle.std.proofs.lemmas.List.{map-append}
+use Rattle.std.proofs.lemmas.List.{length-map, map-append}
 use Rattle.std.proofs.lemmas.List.Elements.{All-nil, All-push}
 use Rattle.csv.specs.Records.{fields_of}
 use Rattle.gb_defs.specs.Table.{Head}
@@ -24,20 +24,22 @@ loop-field-init c =
       },
     )
 
-pub returns-in_default-clause-ok : goal.returns-in_default-clause-ok
-returns-in_default-clause-ok c =
+pub returns-in_default-clause-err : goal.returns-in_default-clause-err
+returns-in_default-clause-err c =
     let inv = c.loop-field.invariant.2 in
     let read = rw inv.same at (sym c.in-Some.ensures.steps.1) in
-    sym (header_unread (fields_of c.args.header.now) c.loop-field.field-iterator.at (map value_of c.loop-field.columns.items) c.loop-field.seen.keys inv.made c.in-Some.field.now read
+    let place : c.len-in-loop-field.result + 1 ≡ suc c.loop-field.field-iterator.at = omega (arith, inv.made.count, length-map c.loop-field.columns.items value_of) in
+    rw place (header_unread (fields_of c.args.header.now) c.loop-field.field-iterator.at (map value_of c.loop-field.columns.items) c.loop-field.seen.keys inv.made c.in-Some.field.now read
     (sym c.in_default.ensures))
 
-pub returns-then-not-branch-clause-ok : goal.returns-then-not-branch-clause-ok
-returns-then-not-branch-clause-ok c =
+pub returns-then-not-branch-clause-err : goal.returns-then-not-branch-clause-err
+returns-then-not-branch-clause-err c =
     let inv = c.loop-field.invariant.2 in
     let read = rw inv.same at (sym c.in-Some.ensures.steps.1) in
     let head : Head = record { name = c.in-Some-read_field.name.now; dtype = type_of c.in-Some-read_field.dtype } in
     let known : holds c.loop-field.seen.keys c.in-Some-read_field.name.now ≡ true = held _ _ c.in_ok-insert.ensures.added c.if-not-branch.true in
-    sym (header_repeated (fields_of c.args.header.now) c.loop-field.field-iterator.at (map value_of c.loop-field.columns.items) c.loop-field.seen.keys inv.made c.in-Some.field.now read
+    let place : c.len-in-loop-field.result + 1 ≡ suc c.loop-field.field-iterator.at = omega (arith, inv.made.count, length-map c.loop-field.columns.items value_of) in
+    rw place (header_repeated (fields_of c.args.header.now) c.loop-field.field-iterator.at (map value_of c.loop-field.columns.items) c.loop-field.seen.keys inv.made c.in-Some.field.now read
     head (sym c.in-Some-read_field.ensures) known)
 
 pub loop-field-preserved : goal.loop-field-preserved
@@ -66,4 +68,4 @@ pub returns-clause-ok : goal.returns-clause-ok
 returns-clause-ok c =
     let inv = c.loop-field.invariant.2 in
     let past = rw inv.same at c.in-None.ensures.steps.1 in
-    sym (header_end (fields_of c.args.header.now) c.loop-field.field-iterator.at (map value_of c.loop-field.columns.items) c.loop-field.seen.keys inv.made past)
+    header_end (fields_of c.args.header.now) c.loop-field.field-iterator.at (map value_of c.loop-field.columns.items) c.loop-field.seen.keys inv.made past

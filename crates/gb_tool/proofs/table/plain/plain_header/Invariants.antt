@@ -6,4 +6,4 @@ use Rattle.csv.specs.Records.{fields_of, partial_of}
 use Rattle.gb_tool.proofs.table.plain.plain_header.Given as goal
 
 abbrev pub invariant-loop : goal.invariant-loop
-invariant-loop l = (partial_of l.row ≡ []) × (next_record default_config st.StartField [] [] l.fn.text ≡ next_record default_config st.StartField (fields_of l.row) [] l.left)
+invariant-loop l = (partial_of l.fields ≡ []) × (next_record default_config st.StartField [] [] l.fn.text ≡ next_record default_config st.StartField (fields_of l.fields) [] l.left)

@@ -4,7 +4,8 @@ use Rattle.std.proofs.lemmas.List.Elements.{All-set}
 use Rattle.std.proofs.lemmas.Str.{IsUtf8-from_ascii}
 use Rattle.gb_series.specs.Series.{value_of}
 use Rattle.gb_tool.specs.Table.{IsTyped}
-use Rattle.gb_tool.proofs.PlainLemmas.{cell_ascii, rest_ascii, passing_none, passing_more, passing_all}
+use Rattle.gb_tool.proofs.PlainLemmas.{cell_ascii, rest_ascii}
+use Rattle.gb_tool.proofs.PushLemmas.{passing_none, passing_more, passing_all}
 use Rattle.gb_tool.proofs.table.plain.push_line.Goals as goal
 
 pub loop-column-init : goal.loop-column-init
@@ -14,7 +15,7 @@ loop-column-init c = record {
   passing = passing_none c.args.null_word.now (map value_of c.args.columns.now);
   typed = c.requires.typed;
   room = λ k d low lt. c.requires.room k d lt;
-  ascii = c.requires.known;
+  is_ascii = c.requires.ascii;
 }
 
 pub push_cell-requires-clause-typed : goal.push_cell-requires-clause-typed
@@ -23,9 +24,9 @@ push_cell-requires-clause-typed c = c.loop-column.invariant.typed c.loop-column.
 pub push_cell-requires-clause-room : goal.push_cell-requires-clause-room
 push_cell-requires-clause-room c = c.loop-column.invariant.room c.loop-column.column-index c.column-item.result (omega arith) (omega arith)
 
-pub push_cell-requires-clause-known : goal.push_cell-requires-clause-known
-push_cell-requires-clause-known c = λ known.
-    IsUtf8-from_ascii _ (cell_ascii c.loop-column.left.now c.in-Some.cell.now c.in-Some.rest.now c.in-Some.last c.in-Some.ensures (c.loop-column.invariant.ascii known))
+pub push_cell-requires-clause-is_text : goal.push_cell-requires-clause-is_text
+push_cell-requires-clause-is_text c = λ ascii.
+    IsUtf8-from_ascii _ (cell_ascii c.loop-column.left.now c.in-Some.cell.now c.in-Some.rest.now c.in-Some.last c.in-Some.ensures (c.loop-column.invariant.is_ascii ascii))
 
 pub loop-column-preserved : goal.loop-column-preserved
 loop-column-preserved c =
@@ -41,13 +42,13 @@ loop-column-preserved c =
       done = s.done ++ c.in-Some.cell.now ∷ [];
       read = read ∙ c.in-Some.ensures.reads s.done;
       passing = rw (map-set value_of now c.loop-column.column-index c.push_cell.new.column) (passing_more c.args.null_word.now (map value_of c.args.columns.now) s.done
-          c.loop-column.column-index (map value_of now) s.passing (value_of column) (value_of c.push_cell.new.column) c.in-Some.cell.now lt at (sym good));
+          c.loop-column.column-index (map value_of now) s.passing (value_of column) c.in-Some.cell.now lt at (value_of c.push_cell.new.column) (sym good));
       typed = All-set IsTyped now c.loop-column.column-index c.push_cell.new.column c.in_ok-push_cell.ensures.typed s.typed;
       room = λ k d low high.
           let other : k ≢ c.loop-column.column-index = omega (arith, low) in
           let below : k < length now = omega (arith, high, length-set now c.loop-column.column-index c.push_cell.new.column) in
           rw (get_or-set_other now c.loop-column.column-index k c.push_cell.new.column d other) (s.room k d (omega (arith, low)) below);
-      ascii = λ known. rest_ascii c.loop-column.left.now c.in-Some.cell.now c.in-Some.rest.now c.in-Some.last c.in-Some.ensures (s.ascii known);
+      is_ascii = λ ascii. rest_ascii c.loop-column.left.now c.in-Some.cell.now c.in-Some.rest.now c.in-Some.last c.in-Some.ensures (s.is_ascii ascii);
     }
 
 pub returns-clause-ok : goal.returns-clause-ok
@@ -56,11 +57,12 @@ returns-clause-ok c =
     record {
       fields = s.done;
       reads = rw c.if-not-ended.false at s.read;
-      takes = passing_all c.args.null_word.now (map value_of c.args.columns.now) s.done c.loop-column.column-index (map value_of c.loop-column.columns) s.passing (omega (arith, length-map c.loop-column.columns value_of));
+      takes = λ row. passing_all c.args.null_word.now (map value_of c.args.columns.now) s.done c.loop-column.column-index (map value_of c.loop-column.columns) s.passing row
+          (omega (arith, length-map c.loop-column.columns value_of)) (omega (arith, length-map c.loop-column.columns value_of));
     }
 
 pub returns-clause-typed : goal.returns-clause-typed
 returns-clause-typed c = c.loop-column.invariant.typed
 
-pub returns-clause-known : goal.returns-clause-known
-returns-clause-known c = c.loop-column.invariant.ascii
+pub returns-clause-ascii : goal.returns-clause-ascii
+returns-clause-ascii c = c.loop-column.invariant.is_ascii

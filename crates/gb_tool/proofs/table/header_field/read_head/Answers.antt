@@ -1,7 +1,7 @@
 use Rattle.std.proofs.Common.{◌∙◌, sym, ap, arith}
 use Rattle.gb_tool.specs.Head.{readable_head}
 use Rattle.gb_tool.proofs.HeadLemmas.{plain_head, colon_head, int64_head, text_head, unread_head, whole_head}
-use Rattle.gb_tool.proofs.table.head.read_head.Goals as goal
+use Rattle.gb_tool.proofs.table.header_field.read_head.Goals as goal
 
 pub returns-in_default : goal.returns-in_default
 returns-in_default c = sym (ap readable_head (plain_head c.args.field.now c.in_default.ensures.cases))

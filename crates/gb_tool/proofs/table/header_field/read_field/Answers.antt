@@ -3,7 +3,7 @@ use Rattle.std.proofs.lemmas.Str.{IsUtf8-from_is_utf8, is_utf8-from_IsUtf8}
 use Rattle.std.proofs.lemmas.Bool.{false_from_ne_true}
 use Rattle.std.specs.Str.{is_utf8}
 use Rattle.gb_tool.proofs.CellLemmas.{no_text, its_text}
-use Rattle.gb_tool.proofs.table.head.read_field.Goals as goal
+use Rattle.gb_tool.proofs.table.header_field.read_field.Goals as goal
 
 pub returns-in_err-text : goal.returns-in_err-text
 returns-in_err-text c =

@@ -1,7 +1,8 @@
+//! One field of a header.
+
 ghost use Rattle.std.specs.Prelude.{◌≡◌, option_map};
 ghost use Rattle.gb_defs.specs.Table.{head_of};
-ghost use Rattle.gb_cols.specs.DataType.{type_of};
-ghost use Rattle.gb_tool.specs.Head.{readable_field, readable_head, unread_words};
+ghost use Rattle.gb_tool.specs.Head.{head_from, readable_field, readable_head, unread_words};
 ghost use Rattle.gb_defs.specs.TypeWord.{type_words};
 ghost use Rattle.std.specs.List.{list_any};
 ghost use Rattle.std.specs.Str.{bytes_eq};
@@ -79,9 +80,10 @@ fn is_unread(word: &str) -> bool
     UNREAD_WORDS.contains(&word)
 }
 
-// The name and the type of the column that a header field names, None for a type of which no cell is read.
+// The name and the type of the column that a header field names, None for a type of which no cell is
+// read.
 fn read_head(field: &str) -> Option<(&str, DataType)>
-    ensures { option_map (λ head. record { name = head.0.now; dtype = type_of head.1 }) result ≡ readable_head (head_of field.now) }
+    ensures { option_map head_from result ≡ readable_head (head_of field.now) }
 {
     let Some((name, word)) = field.rsplit_once(':') else {
         return Some((field, DataType::String));
@@ -97,7 +99,7 @@ fn read_head(field: &str) -> Option<(&str, DataType)>
 /// The name and the type of the column that a header field names, None for bytes that are no text and
 /// for a type of which no cell is read.
 pub fn read_field(field: &[u8]) -> Option<(&str, DataType)>
-    ensures { option_map (λ head. record { name = head.0.now; dtype = type_of head.1 }) result ≡ readable_field field.now }
+    ensures { option_map head_from result ≡ readable_field field.now }
 {
     let text = str::from_utf8(field).ok()?;
     read_head(text)
