@@ -16,7 +16,8 @@ use Rattle.gb_defs.specs.Partitions.{by_partition, in_partition, partition_group
 use Rattle.gb_defs.proofs.ClassesLemmas.{firsts_ascend}
 use Rattle.gb_defs.proofs.PartitionLemmas.{partitions_united, picked_once}
 use Rattle.gb_groups.specs.Groups.{pairs_of}
-use Rattle.gb_groups.specs.Order.{first_of, IsByFirst}
+use Rattle.gb_defs.specs.Groups.{first_of}
+use Rattle.gb_groups.specs.Order.{IsByFirst}
 use Rattle.gb_groups.proofs.OnceLemmas.{once}
 use Rattle.gb_paths.specs.Partitions.{rows_by_partition}
 
