@@ -115,6 +115,7 @@ fn tables_and_faults(rt: HostRuntime) -> Result<(), Fail> {
         (b"k:i64\n\n", "na", Ok("k;")),
     ];
     for (text, null_word, want) in cases {
+        assert!(rt; text.len() < 100, "at {text:?}");
         match table_of(alloc, text, null_word) {
             Ok(frame) => {
                 let shown = shown(alloc, &frame)?;
