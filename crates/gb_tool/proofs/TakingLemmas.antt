@@ -12,7 +12,7 @@ use Rattle.gb_defs.specs.Table.{TableFault, NoHeader, table}
 use Rattle.gb_defs.specs.Column.{IsFrame}
 use Rattle.gb_series.specs.declared.series.Series.{Series}
 use Rattle.gb_series.specs.Series.{value_of}
-use Rattle.gb_tool.specs.Table.{GivesRecords, HasRoom, IsTyped, columns_with, columns_of_header, left_of}
+use Rattle.gb_tool.specs.Table.{GivesRecords, HasRecordsOf, HasRoom, IsTyped, columns_with, columns_of_header, left_of}
 use Rattle.gb_tool.proofs.ReadingLemmas.{IsReading, no_header, header_bad, reading_header, reading_more, reading_bad, reading_end, reading_frame, reading_room}
 
 -- a reader of a builder that names no headers and is flexible
@@ -40,16 +40,16 @@ room_of (column ∷ columns) h = (h.0, room_of columns h.1)
 module _ (null_word bytes : List ℕ) where
   -- ---- the header
 
-  module _ (a b : Reader (Bor (List ℕ))) (gives : GivesRecords a) (source : source_of left_of a ≡ Some (strip_bom bytes)) (start : a.state ≡ st.StartRecord) where
+  module _ (a b : Reader (Bor (List ℕ))) (start : HasRecordsOf bytes a) where
     pub taking_none : (fields : List (List ℕ)) → ReadRecord left_of a b false fields → table bytes null_word ≡ Err NoHeader
     unfolding Reached
     taking_none fields r =
-        no_header null_word bytes a.state (strip_bom bytes) (sym start, refl) (rows-end left_of a b fields default_config (strip_bom bytes) gives.config source r)
+        no_header null_word bytes a.state (strip_bom bytes) (sym start.state, refl) (rows-end left_of a b fields default_config (strip_bom bytes) start.gives.config start.source r)
 
     module _ (header : List (List ℕ)) (r : ReadRecord left_of a b true header) where
       reached : (z : List ℕ) × (source_of left_of b ≡ Some z) × Reached default_config st.StartRecord (strip_bom bytes) (header ∷ []) b.state z
       unfolding Reached
-      reached = rows-more left_of a b header default_config st.StartRecord (strip_bom bytes) (strip_bom bytes) [] gives.config source (sym start, refl) r
+      reached = rows-more left_of a b header default_config st.StartRecord (strip_bom bytes) (strip_bom bytes) [] start.gives.config start.source (sym start.state, refl) r
 
       pub taking_no_columns : (fault : TableFault) → columns_of_header header ≡ Err fault → table bytes null_word ≡ Err fault
       taking_no_columns fault e = header_bad null_word bytes header b.state reached.0 reached.2 fault e

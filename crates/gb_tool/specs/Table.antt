@@ -11,7 +11,8 @@ use Rattle.gb_series.specs.declared.series.Series.{Series}
 use Rattle.gb_series.specs.declared.series.Series.TheVariants.{UInt32, Int64, String}
 use Rattle.csv.specs.declared.reader.Reader.{Reader}
 use Rattle.csv.specs.declared.reader.Trim.TheVariants as trim
-use Rattle.csv.specs.Reading.{Ready, default_config}
+use Rattle.csv.specs.declared.parser.State.TheVariants as st
+use Rattle.csv.specs.Reading.{Ready, default_config, source_of, strip_bom}
 
 -- what a result holds, changed, where there is no fault
 abbrev pub map_ok : {A B : Type 0} → (A → B) → Result A TableFault → Result B TableFault
@@ -73,3 +74,9 @@ pub record GivesRecords (reader : Reader (Bor (List ℕ))) : Type 0 where
 -- the bytes of a slice that are left
 abbrev pub left_of : Bor (List ℕ) → Option (List ℕ)
 left_of s = Some s.now
+
+-- the reader has yet to give the records of these bytes
+pub record HasRecordsOf (bytes : List ℕ) (reader : Reader (Bor (List ℕ))) : Type 0 where
+  pub gives : GivesRecords reader
+  pub source : source_of left_of reader ≡ Some (strip_bom bytes)
+  pub state : reader.state ≡ st.StartRecord

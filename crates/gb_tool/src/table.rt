@@ -15,7 +15,7 @@ ghost use Rattle.gb_defs.specs.Table.{table};
 ghost use Rattle.gb_cols.specs.PlSmallStr.{IsNoMemory};
 ghost use Rattle.gb_series.specs.Series.{value_of};
 ghost use Rattle.gb_tool.specs.Refusal.{IsRefusedTable};
-ghost use Rattle.gb_tool.specs.Table.{GivesRecords, left_of};
+ghost use Rattle.gb_tool.specs.Table.{GivesRecords, HasRecordsOf, left_of};
 ghost use Rattle.csv.specs.Reading.{ReadRecord};
 ghost use Rattle.csv.specs.Records.{fields_of};
 
@@ -88,13 +88,22 @@ pub fn table_of(alloc: Global, bytes: &[u8], null_word: &str) -> Result<DataFram
     csv_table(alloc, bytes, null_word)
 }
 
+// A reader of the records of a text, the header among them.
+fn reader_of(alloc: Global, bytes: &[u8]) -> Reader<&[u8]>
+    ensures { HasRecordsOf bytes.now result }
+{
+    ReaderBuilder::new()
+        .has_headers(false)
+        .flexible(true)
+        .from_reader(alloc, bytes)
+}
+
 // The next record, false where there is none. Of a reader over bytes in memory that takes records of
 // any length, every error is want of memory.
 fn read_record(reader: &mut Reader<&[u8]>, fields: &mut ByteRecord) -> Result<bool, AllocError>
     requires { GivesRecords reader.old }
-    ensures read {
-        IfOk result (λ found. ReadRecord left_of reader.old reader.new found (fields_of fields.new))
-    }
+    ensures read { IfOk result (λ found.
+        ReadRecord left_of reader.old reader.new found (fields_of fields.new)) }
     ensures gives { OnOk result (GivesRecords reader.new) }
 {
     match reader.read_byte_record(fields) {
@@ -109,10 +118,7 @@ fn csv_table(alloc: Global, bytes: &[u8], null_word: &str) -> Result<DataFrame, 
     ensures ok { IfOk result (λ frame. table bytes.now null_word.now ≡ Ok frame) }
     ensures err { IfErr result (λ e. IsRefusedTable e (table bytes.now null_word.now)) }
 {
-    let mut reader = ReaderBuilder::new()
-        .has_headers(false)
-        .flexible(true)
-        .from_reader(alloc, bytes);
+    let mut reader = reader_of(alloc, bytes);
     let mut fields = ByteRecord::new(alloc);
     let found = read_record(&mut reader, &mut fields)?;
     if !found {

@@ -52,11 +52,13 @@ fn end_row(writer: &mut Writer<Vec<u8>>) -> Result<(), AllocError>
 }
 
 // The header field of a column, made in `field`.
-fn put_head(writer: &mut Writer<Vec<u8>>, column: &Series, field: &mut Vec<u8>) -> Result<(), AllocError>
-    ensures {
-        let field = header_field (content (value_of column.now)) in
-        OnOk result (TakesField writer.old writer.new field)
-    }
+fn put_head(
+    writer: &mut Writer<Vec<u8>>,
+    column: &Series,
+    field: &mut Vec<u8>,
+) -> Result<(), AllocError>
+    ensures { let field = header_field (content (value_of column.now)) in
+        OnOk result (TakesField writer.old writer.new field) }
 {
     let word = word_of(only_memory(column.dtype())?);
     field.clear();
@@ -74,12 +76,11 @@ fn put_cell(
     null_word: &str,
 ) -> Result<(), AllocError>
     requires { row < length (value_of column.now).slots }
-    ensures {
-        OnOk result (TakesField writer.old writer.new (cell_of null_word.now (value_of column.now) row))
-    }
+    ensures { let cell = cell_of null_word.now (value_of column.now) row in
+        OnOk result (TakesField writer.old writer.new cell) }
 {
     let mut digits = Buffer::new();
-    // A column's name is asked for since that call tells its type.
+    // A call of `name` tells the column's type.
     match column {
         Series::UInt32(column) => {
             let _ = column.name();
@@ -106,8 +107,13 @@ fn put_cell(
 }
 
 // The row of header fields.
-fn put_header(alloc: Global, writer: &mut Writer<Vec<u8>>, columns: &[Series]) -> Result<(), AllocError>
-    ensures { OnOk result (TakesRows writer.old writer.new (header_line (contents_of columns.now))) }
+fn put_header(
+    alloc: Global,
+    writer: &mut Writer<Vec<u8>>,
+    columns: &[Series],
+) -> Result<(), AllocError>
+    ensures { let line = header_line (contents_of columns.now) in
+        OnOk result (TakesRows writer.old writer.new line) }
 {
     let mut field = Vec::new(alloc);
     for column in columns {
@@ -124,10 +130,8 @@ fn put_row(
     null_word: &str,
 ) -> Result<(), AllocError>
     requires { All (λ column. row < length (value_of column).slots) columns.now }
-    ensures {
-        let line = row_line null_word.now (contents_of columns.now) row in
-        OnOk result (TakesRows writer.old writer.new line)
-    }
+    ensures { let line = row_line null_word.now (contents_of columns.now) row in
+        OnOk result (TakesRows writer.old writer.new line) }
 {
     for column in columns {
         put_cell(writer, column, row, null_word)?;
@@ -143,10 +147,8 @@ fn put_rows(
     null_word: &str,
 ) -> Result<(), AllocError>
     requires { All (λ column. length (value_of column).slots ≡ height) columns.now }
-    ensures {
-        let line = row_line null_word.now (contents_of columns.now) in
-        OnOk result (TakesRows writer.old writer.new (flat_map line (rows_below height)))
-    }
+    ensures { let line = row_line null_word.now (contents_of columns.now) in
+        OnOk result (TakesRows writer.old writer.new (flat_map line (rows_below height))) }
 {
     for row in 0..height {
         put_row(writer, columns, row, null_word)?;
@@ -156,7 +158,7 @@ fn put_rows(
 
 /// The text of the frame, with this word for null.
 pub fn text_of(alloc: Global, frame: &DataFrame, null_word: &str) -> PolarsResult<Vec<u8>>
-    ensures ok { IfOk result (λ text. text.items ≡ frame_text (map content frame.now) null_word.now) }
+    ensures ok { IfOk result (λ t. t.items ≡ frame_text (map content frame.now) null_word.now) }
     ensures err { IfErr result IsNoMemory }
 {
     let columns = frame.get_columns();

@@ -27,9 +27,7 @@ fn is_ascii(fields: &ByteRecord) -> bool
 // The text that a cell is, with no look at a cell that is known to be one.
 fn as_text(cell: &[u8], is_text: bool) -> Option<&str>
     requires { is_text ≡ true → IsUtf8 cell.now }
-    ensures {
-        MatchOption result (¬ (IsUtf8 cell.now)) (λ text. (text.now ≡ cell.now) × IsUtf8 cell.now)
-    }
+    ensures { MatchOption result (¬ (IsUtf8 cell.now)) (λ t. (t.now ≡ cell.now) × IsUtf8 cell.now) }
 {
     if is_text {
         return Some(unsafe { str::from_utf8_unchecked(cell) });
@@ -97,9 +95,8 @@ pub fn push_cell(
     requires typed { IsTyped column.old }
     requires room { HasRoom (value_of column.old) }
     requires is_text { is_text ≡ true → IsUtf8 cell.now }
-    ensures ok {
-        IfOk result (TakesCell null_word.now (value_of column.old) (value_of column.new) cell.now)
-    }
+    ensures ok { let old = value_of column.old in
+        IfOk result (TakesCell null_word.now old (value_of column.new) cell.now) }
     ensures typed { IsTyped column.new }
 {
     match column {
@@ -120,15 +117,13 @@ pub fn push_record(
 ) -> Result<(), TableError>
     requires typed { All IsTyped columns.old }
     requires room { All (λ column. HasRoom (value_of column)) columns.old }
-    ensures ok {
-        let frame = columns_with null_word.now row (map value_of columns.old) (fields_of fields.now) in
-        OnOk result (frame ≡ Ok (map value_of columns.new))
-    }
+    ensures ok { let old = map value_of columns.old in
+        let frame = columns_with null_word.now row old (fields_of fields.now) in
+        OnOk result (frame ≡ Ok (map value_of columns.new)) }
     ensures typed { OnOk result (All IsTyped columns.new) }
-    ensures err {
-        let frame = columns_with null_word.now row (map value_of columns.old) (fields_of fields.now) in
-        IfErr result (λ e. IsRefusedTable e frame)
-    }
+    ensures err { let old = map value_of columns.old in
+        let frame = columns_with null_word.now row old (fields_of fields.now) in
+        IfErr result (λ e. IsRefusedTable e frame) }
 {
     let found = fields.len();
     let wanted = columns.len();

@@ -36,10 +36,8 @@ fn empty_column(alloc: Global, name: &str, dtype: DataType) -> Result<Series, Al
 /// The columns that a header names, with no slots, or its first fault: a field that does not read, or
 /// the name of a column before.
 pub fn columns_of_header(alloc: Global, header: &ByteRecord) -> Result<Vec<Series>, TableError>
-    ensures ok {
-        let frame = frame_of_header (fields_of header.now) in
-        IfOk result (λ columns. frame ≡ Ok (map value_of columns.items))
-    }
+    ensures ok { let frame = frame_of_header (fields_of header.now) in
+        IfOk result (λ columns. frame ≡ Ok (map value_of columns.items)) }
     ensures typed { IfOk result (λ columns. All IsTyped columns.items) }
     ensures err { IfErr result (λ e. IsRefusedTable e (frame_of_header (fields_of header.now))) }
 {

@@ -45,9 +45,7 @@ fn next_cell(text: &[u8]) -> Option<(&[u8], &[u8], bool)>
 
 // The record in front of a text, and the text behind it.
 fn plain_header(alloc: Global, text: &[u8]) -> Result<Option<(ByteRecord, &[u8])>, AllocError>
-    ensures {
-        IfOk result (λ found. IfSome found (λ h. BeginsWith (fields_of h.0) text.now h.1.now))
-    }
+    ensures { IfOk result (λ cut. IfSome cut (λ h. BeginsWith (fields_of h.0) text.now h.1.now)) }
 {
     let mut fields = ByteRecord::new(alloc);
     let mut left = text;
@@ -75,11 +73,10 @@ fn push_line<'a>(
     requires typed { All IsTyped columns.old }
     requires room { All (λ column. HasRoom (value_of column)) columns.old }
     requires ascii { ascii ≡ true → IsAscii text.now }
-    ensures ok {
-        let old = map value_of columns.old in
+    ensures ok { let old = map value_of columns.old in
         let new = map value_of columns.new in
-        IfOk result (λ found. IfSome found (λ rest. TakesLine null_word.now old new text.now rest.now))
-    }
+        IfOk result (λ found.
+        IfSome found (λ rest. TakesLine null_word.now old new text.now rest.now)) }
     ensures typed { IfOk result (λ found. IfSome found (λ _. All IsTyped columns.new)) }
     ensures ascii { IfOk result (λ found. IfSome found (λ rest. ascii ≡ true → IsAscii rest.now)) }
 {
@@ -119,9 +116,8 @@ pub fn plain_table(
     null_word: &str,
 ) -> Result<Option<DataFrame>, TableError>
     requires { length bytes.now ≤ 4294967295 }
-    ensures ok {
-        IfOk result (λ found. IfSome found (λ frame. table bytes.now null_word.now ≡ Ok frame))
-    }
+    ensures ok { IfOk result (λ found.
+        IfSome found (λ frame. table bytes.now null_word.now ≡ Ok frame)) }
     ensures err { IfErr result (λ e. IsRefusedTable e (table bytes.now null_word.now)) }
 {
     // A byte order mark begins with this byte.

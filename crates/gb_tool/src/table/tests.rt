@@ -50,7 +50,11 @@ fn tables_and_faults(rt: HostRuntime) -> Result<(), Fail> {
             Ok("date|2020-08-21|2020-08-22;temp|20|-7;"),
         ),
         (b"k,v:i64\n,5\n1,6\n,7\n", "", Ok("k|null|1|null;v|5|6|7;")),
-        (b"a:b:str,k:i64\nna,na\n\"q,\"\"\",+7\n", "na", Ok("a:b|null|q,\";k|null|7;")),
+        (
+            b"a:b:str,k:i64\nna,na\n\"q,\"\"\",+7\n",
+            "na",
+            Ok("a:b|null|q,\";k|null|7;"),
+        ),
         (b"\xEF\xBB\xBFk:i64\r\n9\r\n", "", Ok("k|9;")),
         (b"k:i64\n", "", Ok("k;")),
         (b"k:i65\nx", "", Ok("k:i65|x;")),
@@ -65,24 +69,53 @@ fn tables_and_faults(rt: HostRuntime) -> Result<(), Fail> {
         (b"k,k,v:i32\n", "", Err(TableFault::SameName(2))),
         (b"\r\n\"a\",b,a\n", "", Err(TableFault::SameName(3))),
         // Records below it.
-        (b"k,v:i64\na,1\nb\nc,x\n", "", Err(TableFault::Ragged(2, 1, 2))),
+        (
+            b"k,v:i64\na,1\nb\nc,x\n",
+            "",
+            Err(TableFault::Ragged(2, 1, 2)),
+        ),
         (b"a,b\n1,2,3\n", "", Err(TableFault::Ragged(1, 3, 2))),
         (b"k:i64\n1\n12x\n", "", Err(TableFault::BadCell(2, 1))),
-        (b"k:i64\n9223372036854775808\n", "", Err(TableFault::BadCell(1, 1))),
+        (
+            b"k:i64\n9223372036854775808\n",
+            "",
+            Err(TableFault::BadCell(1, 1)),
+        ),
         (b"k\n\xFF\n", "", Err(TableFault::BadCell(1, 1))),
         (b"k,v:i64\na,1\nb,\n", "na", Err(TableFault::BadCell(2, 2))),
-        (b"k,v:i64\nx,y,z\na,b\n", "", Err(TableFault::Ragged(1, 3, 2))),
+        (
+            b"k,v:i64\nx,y,z\na,b\n",
+            "",
+            Err(TableFault::Ragged(1, 3, 2)),
+        ),
         // Behind a quoted field, and behind a line end inside one.
-        (b"k,v:i64\n\"a,\",1\nb,x\n", "", Err(TableFault::BadCell(2, 2))),
-        (b"k,v:i64\n\"a\n\n\",1\nb\n", "", Err(TableFault::Ragged(2, 1, 2))),
+        (
+            b"k,v:i64\n\"a,\",1\nb,x\n",
+            "",
+            Err(TableFault::BadCell(2, 2)),
+        ),
+        (
+            b"k,v:i64\n\"a\n\n\",1\nb\n",
+            "",
+            Err(TableFault::Ragged(2, 1, 2)),
+        ),
         // Blank lines are no records.
-        (b"k,v:i64\n\n\na,1\n\nb,x\n", "", Err(TableFault::BadCell(2, 2))),
-        (b"k:i64\r\n\r\n1\r\nx\r\n", "", Err(TableFault::BadCell(2, 1))),
+        (
+            b"k,v:i64\n\n\na,1\n\nb,x\n",
+            "",
+            Err(TableFault::BadCell(2, 2)),
+        ),
+        (
+            b"k:i64\r\n\r\n1\r\nx\r\n",
+            "",
+            Err(TableFault::BadCell(2, 1)),
+        ),
         (b"\n\nk,k\n", "", Err(TableFault::SameName(2))),
         // A blank line where a field is wanted is no record either.
         (b"k:i64\n\n", "na", Ok("k;")),
     ];
     for (text, null_word, want) in cases {
+        assert!(rt; text.len() < 100, "at {text:?}");
         match table_of(alloc, text, null_word) {
             Ok(frame) => {
                 let shown = shown(alloc, &frame)?;

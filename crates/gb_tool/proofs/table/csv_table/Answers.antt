@@ -6,40 +6,31 @@ use Rattle.gb_series.specs.Series.{value_of}
 use Rattle.gb_tool.specs.Table.{columns_of_header, columns_with}
 use Rattle.gb_defs.specs.Table.{table}
 use Rattle.gb_tool.proofs.ReadingLemmas.{refused_too}
-use Rattle.gb_tool.proofs.TakingLemmas.{records_given, taking_none, taking_no_columns, taking_header, taking_room, taking_frame, taking_all, taking_bad, taking_more}
+use Rattle.gb_tool.proofs.TakingLemmas.{taking_none, taking_no_columns, taking_header, taking_room, taking_frame, taking_all, taking_bad, taking_more}
 use Rattle.gb_tool.proofs.table.csv_table.Goals as goal
 
 pub read_record-requires : goal.read_record-requires
-read_record-requires c =
-    let a = c.from_reader-reader in
-    records_given c.new.result c.has_headers.result.now c.flexible.result.now a.result c.has_headers.ensures c.flexible.ensures c.new.ensures.config c.new.ensures.trim
-    a.ensures.config a.ensures.trim a.ensures.has_headers a.ensures.flexible a.ensures.headers
+read_record-requires c = c.reader_of-reader.ensures.gives
 
 pub returns-then-not-found-clause-err : goal.returns-then-not-found-clause-err
 returns-then-not-found-clause-err c =
-    let a = c.from_reader-reader in
-    let gives = records_given c.new.result c.has_headers.result.now c.flexible.result.now a.result c.has_headers.ensures c.flexible.ensures c.new.ensures.config c.new.ensures.trim
-    a.ensures.config a.ensures.trim a.ensures.has_headers a.ensures.flexible a.ensures.headers in
+    let a = c.reader_of-reader in
     let read = rw c.if-not-found.true at c.in_ok-found.ensures.read in
-    taking_none c.args.null_word.now c.args.bytes.now a.result c.read_record.new.reader gives a.ensures.source a.ensures.state (fields_of c.read_record.new.fields) read
+    taking_none c.args.null_word.now c.args.bytes.now a.result c.read_record.new.reader a.ensures (fields_of c.read_record.new.fields) read
 
 pub returns-in_err-columns-clause-err : goal.returns-in_err-columns-clause-err
 returns-in_err-columns-clause-err c =
-    let a = c.from_reader-reader in
-    let gives = records_given c.new.result c.has_headers.result.now c.flexible.result.now a.result c.has_headers.ensures c.flexible.ensures c.new.ensures.config c.new.ensures.trim
-    a.ensures.config a.ensures.trim a.ensures.has_headers a.ensures.flexible a.ensures.headers in
+    let a = c.reader_of-reader in
     let read = rw c.if-not-found.false at c.in_ok-found.ensures.read in
-    let bad = taking_no_columns c.args.null_word.now c.args.bytes.now a.result c.read_record.new.reader gives a.ensures.source a.ensures.state (fields_of c.read_record.new.fields) read in
+    let bad = taking_no_columns c.args.null_word.now c.args.bytes.now a.result c.read_record.new.reader a.ensures (fields_of c.read_record.new.fields) read in
     let p = err_from_is_err_and c.from_residual-in_err-columns.result c.from_residual-in_err-columns.ensures.1 in
     rw (p.1, p.2) (refused_too c.in_err-columns.field-0.0 (columns_of_header (fields_of c.read_record.new.fields)) (table c.args.bytes.now c.args.null_word.now) bad c.in_err-columns.ensures.err)
 
 pub loop-row-init : goal.loop-row-init
 loop-row-init c =
-    let a = c.from_reader-reader in
-    let gives = records_given c.new.result c.has_headers.result.now c.flexible.result.now a.result c.has_headers.ensures c.flexible.ensures c.new.ensures.config c.new.ensures.trim
-    a.ensures.config a.ensures.trim a.ensures.has_headers a.ensures.flexible a.ensures.headers in
+    let a = c.reader_of-reader in
     let read = rw c.if-not-found.false at c.in_ok-found.ensures.read in
-    taking_header c.args.null_word.now c.args.bytes.now a.result c.read_record.new.reader gives a.ensures.source a.ensures.state (fields_of c.read_record.new.fields) read
+    taking_header c.args.null_word.now c.args.bytes.now a.result c.read_record.new.reader a.ensures (fields_of c.read_record.new.fields) read
     c.in_ok-found.ensures.gives c.in_ok-columns.columns.items c.in_ok-columns.ensures.ok c.in_ok-columns.ensures.typed
 
 pub read_record-requires-in-loop-row : goal.read_record-requires-in-loop-row
