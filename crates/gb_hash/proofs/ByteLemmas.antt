@@ -17,10 +17,10 @@ sum_alike f g (suc k) h =
 word_alike : (xs ys : List ℕ) → ((i : ℕ) → i < 8 → get_or xs i 0 ≡ get_or ys i 0) → from_le_bytes w64 xs ≡ from_le_bytes w64 ys
 word_alike xs ys h = sum_alike (λ i. byte_worth i (get_or xs i 0)) (λ i. byte_worth i (get_or ys i 0)) 7 (λ i l. ap (byte_worth i) (h i (omega arith)))
 
-pub word_taken : (xs : List ℕ) → from_le_bytes w64 (take 8 xs) ≡ from_le_bytes w64 xs
+word_taken : (xs : List ℕ) → from_le_bytes w64 (take 8 xs) ≡ from_le_bytes w64 xs
 word_taken xs = word_alike (take 8 xs) xs (λ i l. get_or-take 8 xs i 0 l)
 
-pub words_more : (xs : List ℕ) → 8 ≤ length xs → words_of xs ≡ from_le_bytes w64 (take 8 xs) ∷ words_of (drop 8 xs)
+words_more : (xs : List ℕ) → 8 ≤ length xs → words_of xs ≡ from_le_bytes w64 (take 8 xs) ∷ words_of (drop 8 xs)
 words_more xs h =
     let shorter : length (drop 8 xs) + 8 ≡ length xs = omega (arith, length-drop 8 xs) in
     let more : div_ceil (length xs) 8 ≡ suc (div_ceil (length (drop 8 xs)) 8) = rw (sym shorter) (omega arith) in

@@ -84,10 +84,10 @@ reached_put slots at v hash g free r = record {
   holds = put_taken slots at v (hash + r.distance) free (λ e. omega (arith, r.holds, e)) ∙ r.holds;
 }
 
-pub spot_in : (slots : List ℕ) (hash at : ℕ) → IsFreeFor slots hash at → at < length slots
+spot_in : (slots : List ℕ) (hash at : ℕ) → IsFreeFor slots hash at → at < length slots
 spot_in slots hash at spot = place_in at _ _ spot.place (omega (arith, spot.probed.near))
 
-pub table_put : (slots hashes : List ℕ) (hash at : ℕ) → IsTable slots hashes → IsFreeFor slots hash at → IsTable (set slots at (length hashes + 1)) (hashes ++ hash ∷ [])
+table_put : (slots hashes : List ℕ) (hash at : ℕ) → IsTable slots hashes → IsFreeFor slots hash at → IsTable (set slots at (length hashes + 1)) (hashes ++ hash ∷ [])
 table_put slots hashes hash at table spot =
     let inside : at < length slots = spot_in slots hash at spot in
     let new = length hashes + 1 in

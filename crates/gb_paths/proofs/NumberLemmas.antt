@@ -12,7 +12,7 @@ use Rattle.gb_paths.specs.Numbers.{rows_of, lists_by, count_of, counts_by, IsRoo
 
 -- ---- rows
 
-pub rows_push : (rows numbers : List ℕ) (row n k : ℕ) → length numbers ≡ length rows → rows_of (rows ++ row ∷ []) (numbers ++ n ∷ []) k ≡ rows_of rows numbers k ++ cond (eqb n k) (row ∷ []) []
+rows_push : (rows numbers : List ℕ) (row n k : ℕ) → length numbers ≡ length rows → rows_of (rows ++ row ∷ []) (numbers ++ n ∷ []) k ≡ rows_of rows numbers k ++ cond (eqb n k) (row ∷ []) []
 unfolding rows_of
 rows_push [] [] row n k each = refl
 rows_push [] (m ∷ ms) row n k each = absurd (omega (arith, each))
@@ -24,7 +24,7 @@ rows_push (r ∷ rs) (m ∷ ms) row n k each =
 abbrev one_if : ℕ → ℕ → ℕ
 one_if k n = cond (eqb n k) 1 0
 
-pub length-rows_of : (rows numbers : List ℕ) (k : ℕ) → length numbers ≡ length rows → length (rows_of rows numbers k) ≡ count_of numbers k
+length-rows_of : (rows numbers : List ℕ) (k : ℕ) → length numbers ≡ length rows → length (rows_of rows numbers k) ≡ count_of numbers k
 unfolding rows_of
 length-rows_of [] [] k each = refl
 length-rows_of [] (m ∷ ms) k each = absurd (omega (arith, each))
@@ -39,7 +39,7 @@ length-rows_of (r ∷ rs) (m ∷ ms) k each =
 
 -- ---- counts
 
-pub count_take : (numbers : List ℕ) (n k : ℕ) → count_of (take n numbers) k ≤ count_of numbers k
+count_take : (numbers : List ℕ) (n k : ℕ) → count_of (take n numbers) k ≤ count_of numbers k
 count_take numbers n k =
     let whole : count_of (take n numbers) k + count_of (drop n numbers) k ≡ count_of numbers k =
     sym (sum_by-append (one_if k) (take n numbers) (drop n numbers)) ∙ ap (λ ns. count_of ns k) (take-append-drop n numbers) in
@@ -47,7 +47,7 @@ count_take numbers n k =
 
 -- ---- what stands at each place of two lists
 
-pub all_zip_at : {A B : Type 0} (R : A → B → Type 0) (xs : List A) (ys : List B) → AllZip R xs ys → (k : ℕ) (d : A) (e : B) → k < length ys → R (get_or xs k d) (get_or ys k e)
+all_zip_at : {A B : Type 0} (R : A → B → Type 0) (xs : List A) (ys : List B) → AllZip R xs ys → (k : ℕ) (d : A) (e : B) → k < length ys → R (get_or xs k d) (get_or ys k e)
 all_zip_at R [] [] h k d e lt = absurd (omega (arith, lt))
 all_zip_at R [] (y ∷ ys) h k d e lt = absurd h
 all_zip_at R (x ∷ xs) [] h k d e lt = absurd h

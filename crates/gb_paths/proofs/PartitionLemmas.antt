@@ -10,13 +10,12 @@ use Rattle.std.proofs.lemmas.List.Elements.{All-filter, All-from_recursion, recu
 use Rattle.std.proofs.lemmas.List.Sorted.{IsNonDecreasingBy-from_sort}
 use Rattle.smallvec.specs.SmallVec.{SmallVec}
 use Rattle.gb_defs.specs.Classes.{class, firsts, groups, is_first, rows_below}
-use Rattle.gb_defs.specs.Groups.{Grouping, Idx, idx_groups}
+use Rattle.gb_defs.specs.Groups.{Grouping, Idx, first_of, idx_groups}
 use Rattle.gb_defs.specs.Hash.{partition_of}
 use Rattle.gb_defs.specs.Partitions.{by_partition, in_partition, partition_groups}
 use Rattle.gb_defs.proofs.ClassesLemmas.{firsts_ascend}
 use Rattle.gb_defs.proofs.PartitionLemmas.{partitions_united, picked_once}
 use Rattle.gb_groups.specs.Groups.{pairs_of}
-use Rattle.gb_defs.specs.Groups.{first_of}
 use Rattle.gb_groups.specs.Order.{IsByFirst}
 use Rattle.gb_groups.proofs.OnceLemmas.{once}
 use Rattle.gb_paths.specs.Partitions.{rows_by_partition}
@@ -69,7 +68,7 @@ module _ (f : ℕ → List ℕ) where
       rw (get_or-map with_rows xs i 0 d low, get_or-map with_rows xs j 0 d inside) (up i j 0 le inside)
 
 -- the groups of partitions are in the order of their first rows the groups of all rows
-pub united_sorted : (agree : ℕ → ℕ → Bool) (hash : ℕ → ℕ) (n count : ℕ) (after : List (ℕ × List ℕ)) → AllByRecursion (λ i. partition_of (hash i) n < n) (rows_below count) →
+united_sorted : (agree : ℕ → ℕ → Bool) (hash : ℕ → ℕ) (n count : ℕ) (after : List (ℕ × List ℕ)) → AllByRecursion (λ i. partition_of (hash i) n < n) (rows_below count) →
     IsByFirst (partition_groups agree hash n (rows_below count)) after → after ≡ groups agree (rows_below count)
 unfolding partition_groups groups firsts
 united_sorted agree hash n count after within sorted =

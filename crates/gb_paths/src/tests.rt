@@ -1,7 +1,10 @@
 //! Both paths on a few rows, under mixers that bring all keys together or keep them apart.
 
-ghost use Rattle.std.specs.Prelude.{ℕ, ◌≡◌, ◌<◌, ◌^◌, length, IfOk};
-ghost use Rattle.std.specs.Thread.{IsSync};
+ghost use Rattle.std.specs.Prelude.{ℕ, ◌≡◌, ◌<◌, length, IfOk};
+ghost use Rattle.gb_defs.specs.Groups.{HasRowNumbers};
+
+mod as_slow;
+mod reads;
 
 use crate::group_by::group_uncounted;
 use crate::into_groups::IntoGroupsType;
@@ -9,6 +12,7 @@ use crate::threaded::{group_by_threaded_iter, group_by_threaded_slice};
 use gb_cols::chunked::{Int64Chunked, StringChunked, UInt32Chunked};
 use gb_cols::error::PolarsResult;
 use gb_cols::memory::FreeGate;
+use gb_cols::nullable_idx::IdxSize;
 use gb_cols::pool::Pool;
 use gb_cols::small_str::PlSmallStr;
 use gb_groups::groups_type::GroupsType;
@@ -57,7 +61,7 @@ impl Mixer for Unmixed {
 }
 
 /// A group as a test wants it.
-type Wanted<'a> = (u32, &'a [u32]);
+type Wanted<'a> = (IdxSize, &'a [IdxSize]);
 
 // Whether the groups are these in this order, with this flag.
 fn are(groups: &GroupsType, flagged: bool, wanted: &[Wanted<'_>]) -> bool {
@@ -73,7 +77,7 @@ fn are(groups: &GroupsType, flagged: bool, wanted: &[Wanted<'_>]) -> bool {
 }
 
 fn numbers(alloc: Global, values: &[Option<i64>]) -> PolarsResult<Int64Chunked>
-    requires { length values.now < 2 ^ 32 }
+    requires { HasRowNumbers (length values.now) }
     ensures { IfOk result (λ c. length c.slots ≡ length values.now) }
 {
     let name = PlSmallStr::from_str(alloc, "key")?;
@@ -81,7 +85,7 @@ fn numbers(alloc: Global, values: &[Option<i64>]) -> PolarsResult<Int64Chunked>
 }
 
 fn texts(alloc: Global, values: &[Option<&str>]) -> PolarsResult<StringChunked>
-    requires { length values.now < 2 ^ 32 }
+    requires { HasRowNumbers (length values.now) }
     ensures { IfOk result (λ c. length c.slots ≡ length values.now) }
 {
     let mut column = StringChunked::new(alloc, PlSmallStr::from_str(alloc, "key")?);
@@ -96,9 +100,7 @@ fn group_in_partitions<T: Abort + Threads + Sync>(
     rt: &T,
     alloc: Global,
     pool: &Pool,
-) -> PolarsResult<()>
-    requires row_type { IsSync T.row }
-{
+) -> PolarsResult<()> {
     let one_and_two = [1i64, 2, 1];
     let groups = group_by_threaded_slice(
         rt,
@@ -149,9 +151,7 @@ fn group_in_partitions<T: Abort + Threads + Sync>(
 }
 
 // Whether rows enough for each worker to hash some have two groups.
-fn many_rows_are_two<T: Threads + Sync>(rt: &T, alloc: Global, pool: &Pool) -> PolarsResult<bool>
-    requires row_type { IsSync T.row }
-{
+fn many_rows_are_two<T: Threads + Sync>(rt: &T, alloc: Global, pool: &Pool) -> PolarsResult<bool> {
     let mut keys = vec![in alloc; 5i64; 10_000]?;
     keys[9_999] = 6;
     let mixer = SeedMixer::new(pool.seed());
@@ -171,8 +171,7 @@ fn texts_are<T: Threads + Sync>(
     values: &[Option<&str>],
     wanted: &[Wanted<'_>],
 ) -> PolarsResult<bool>
-    requires row_type { IsSync T.row }
-    requires few { length values.now < 2 ^ 32 }
+    requires few { HasRowNumbers (length values.now) }
 {
     let column = texts(alloc, values)?;
     let groups = column.group_tuples(rt, true, true, pool)?;
@@ -191,8 +190,7 @@ fn numbers_are<T: Threads + Sync>(
     values: &[Option<i64>],
     wanted: &[Wanted<'_>],
 ) -> PolarsResult<bool>
-    requires row_type { IsSync T.row }
-    requires few { length values.now < 2 ^ 32 }
+    requires few { HasRowNumbers (length values.now) }
 {
     let column = numbers(alloc, values)?;
     let groups = column.group_tuples(rt, true, true, pool)?;
@@ -204,9 +202,11 @@ fn numbers_are<T: Threads + Sync>(
 }
 
 // Columns of each type.
-fn group_columns<T: Abort + Threads + Sync>(rt: &T, alloc: Global, pool: &Pool) -> PolarsResult<()>
-    requires row_type { IsSync T.row }
-{
+fn group_columns<T: Abort + Threads + Sync>(
+    rt: &T,
+    alloc: Global,
+    pool: &Pool,
+) -> PolarsResult<()> {
     assert!(rt; texts_are(rt, alloc, pool, &[], &[])?);
     let values = [Some("b"), None, Some("a"), Some("b"), None];
     assert!(rt;
