@@ -1,17 +1,16 @@
 -- The columns of a header, one field after the other.
-use Rattle.std.proofs.Common.{◌≡◌, ℕ, ◌+◌, zero, suc, Bool, true, false, cond, not, ◌||◌, inl, inr, List, [], ◌∷◌, ◌++◌, map, length, drop, refl, sym, ◌∙◌, ap, add-one, arith, Option, Some, None, Result, Ok, Err, Bor}
-use Rattle.std.specs.Prelude.{if◌then◌else◌, IsUtf8}
+use Rattle.std.proofs.Common.{◌≡◌, ℕ, ◌+◌, zero, suc, Bool, true, false, cond, not, ◌||◌, inl, inr, List, [], ◌∷◌, ◌++◌, length, drop, refl, sym, ◌∙◌, ap, add-one, arith, Some, None, Ok, Err, Bor}
 use Rattle.std.specs.Str.{bytes_eq, is_utf8}
-use Rattle.std.specs.List.{list_any, list_all}
+use Rattle.std.specs.List.{list_any}
 use Rattle.std.specs.Cmp.{both_ways}
 use Rattle.std.specs.Cmp.Lexicographic.{bytes_decides}
 use Rattle.std.proofs.lemmas.Bool.{cases_Bool, and_parts}
-use Rattle.std.proofs.lemmas.List.{append-nil, length-append, map-append}
+use Rattle.std.proofs.lemmas.List.{append-nil, length-append}
 use Rattle.csv.specs.Records.{field_at}
 use Rattle.gb_defs.specs.Column.{Frame, fresh_column}
 use Rattle.gb_defs.specs.Cell.{is_read}
-use Rattle.gb_defs.specs.Table.{TableFault, BadCell, SameName, Head, head_of, is_readable, onto, heads_from, heads_of, columns_from}
-use Rattle.gb_tool.specs.Head.{readable_head, readable_field}
+use Rattle.gb_defs.specs.Table.{TableFault, BadCell, SameName, Head, head_of, is_readable, onto, heads_from, columns_from}
+use Rattle.gb_tool.specs.Head.{readable_field}
 use Rattle.gb_tool.specs.Table.{map_ok, columns_of_header}
 use Rattle.gb_tool.proofs.PushLemmas.{field_drop, front_more, no_front}
 use Rattle.gb_tool.proofs.TableLemmas.{are_read, fresh_from, columns_fresh}

@@ -1,6 +1,6 @@
 -- Slots put at the ends of columns, and a record's cells, one column after the other.
-use Rattle.std.proofs.Common.{◌≡◌, ◌==◌, ℕ, ◌+◌, ◌-◌, ◌<◌, ◌≤◌, zero, suc, List, [], ◌∷◌, ◌++◌, map, length, get_or, get_or-drop, set, take, drop, refl, sym, ◌∙◌, ap, append_assoc, add-one, arith, Option, Some, None, Result, Ok, Err}
-use Rattle.std.specs.Prelude.{option_map, if◌then◌else◌}
+use Rattle.std.proofs.Common.{◌≡◌, ℕ, ◌+◌, ◌-◌, ◌<◌, ◌≤◌, zero, suc, List, [], ◌∷◌, ◌++◌, map, length, get_or, get_or-drop, set, take, drop, refl, sym, ◌∙◌, ap, append_assoc, add-one, arith, Option, Some, None, Result, Ok, Err}
+use Rattle.std.specs.Prelude.{option_map}
 use Rattle.std.proofs.lemmas.Bool.{eq-eqb, ne_eqb}
 use Rattle.std.proofs.lemmas.List.{append-nil, length-append, length-map, take_all, drop_all, drop_more, take_more_set, drop-set-lt, length-set}
 use Rattle.std.specs.Str.{IsAscii, IsUtf8}

@@ -7,7 +7,7 @@ use Rattle.std.proofs.lemmas.Bool.{cases_Bool, and_parts, eqb-true, eq-eqb}
 use Rattle.std.proofs.lemmas.List.{map-append, length-append, length-map}
 use Rattle.gb_defs.specs.Slot.{Slot, slot_at}
 use Rattle.gb_defs.specs.ColumnType.{ColumnType, Flat, ListOf, ArrayOf, StructOf, Null, Boolean, Unsigned, Signed, Decimal, Date, Time, Datetime, Duration, String, Binary, BinaryOffset, Categorical, Enum}
-use Rattle.gb_defs.specs.Column.{ColumnValue, Frame, fresh_column, names_of, frame_height, all_have_length, repeated_after}
+use Rattle.gb_defs.specs.Column.{Frame, fresh_column, names_of, frame_height, all_have_length, repeated_after}
 use Rattle.gb_defs.specs.Cell.{cell_slot, is_read}
 use Rattle.gb_defs.specs.Table.{TableFault, Head, onto, cell_onto, cells_from, record_slots, row_onto, rows_from, slots_of_column, read_column, columns_from, head_of, is_readable, heads_from}
 use Rattle.gb_cols.specs.Column.{pushed}

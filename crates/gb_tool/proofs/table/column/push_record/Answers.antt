@@ -1,4 +1,4 @@
-use Rattle.std.proofs.Common.{◌≡◌, ◌≢◌, ◌∙◌, map, ◌<◌, length, get_or, sym, ap, arith, subst}
+use Rattle.std.proofs.Common.{◌≡◌, ◌≢◌, ◌∙◌, map, ◌<◌, length, get_or, sym, arith}
 use Rattle.std.proofs.lemmas.List.{length-map, map-set, get_or-map, get_or-set_other, length-set}
 use Rattle.std.proofs.lemmas.List.Elements.{All-set}
 use Rattle.csv.specs.Records.{fields_of}
