@@ -42,8 +42,8 @@ loop-agg-preserved c =
     let one = c.in_ok-found_aggregate.field-0 in
     record {
       parts = ap contents_of c.in_ok-push-2.ensures.items ∙ map-append part c.loop-agg.columns.items (one ∷ [])
-      ∙ parts_more frame (value_of c.args.key.now ∷ []) c.args.firsts.now (lists_of c.args.lists.now) aggs i agg c.loop-agg-test.true c.agg-item.is
-      (contents_of c.loop-agg.columns.items) (part one) c.loop-agg.invariant.parts c.in_ok-found_aggregate.ensures.ok;
+          ∙ parts_more frame (value_of c.args.key.now ∷ []) c.args.firsts.now (lists_of c.args.lists.now) aggs i agg c.loop-agg-test.true c.agg-item.is
+          (contents_of c.loop-agg.columns.items) (part one) c.loop-agg.invariant.parts c.in_ok-found_aggregate.ensures.ok;
       fit = causes_more (unfit_cause frame) aggs i agg c.loop-agg-test.true c.loop-agg.invariant.fit (rw (← c.agg-item.is) c.in_ok-found_aggregate.ensures.fits);
     }
 
