@@ -9,6 +9,7 @@ mod texts;
 use crate::array::Array;
 use crate::data_type::DataType;
 use crate::error::{PolarsError, PolarsResult};
+use crate::nullable_idx::IdxSize;
 use crate::numeric::{Int64Type, PolarsNumericType, UInt32Type};
 use crate::primitive::PrimitiveArray;
 use crate::small_str::PlSmallStr;
@@ -204,7 +205,7 @@ impl<A: Array> ChunkedArray<A> {
     }
 
     /// The slots of these rows, in one chunk.
-    pub fn take(&self, rows: &[u32]) -> PolarsResult<Self>
+    pub fn take(&self, rows: &[IdxSize]) -> PolarsResult<Self>
         requires { All (λ row. row < length self.now.slots) rows.now }
         ensures ok { IfOk result (λ c. c ≡ taken rows.now self.now) }
         ensures err { IfErr result IsNoMemory }

@@ -1,10 +1,10 @@
 -- The answer of a grouping by keys whose columns have the frame's height.
-use Rattle.std.proofs.Common.{◌≡◌, ℕ, Bool, refl, ◌∙◌, ap, List, [], ◌∷◌, ◌++◌, map, length, Some, None, Ok, Err, eq-eqb}
+use Rattle.std.proofs.Common.{◌≡◌, ℕ, Bool, refl, ap, List, [], ◌∷◌, ◌++◌, map, length, Some, None, Ok, Err, eq-eqb}
 use Rattle.std.proofs.Math.Bool.{and-true}
 use Rattle.std.specs.List.{AllByRecursion}
-use Rattle.gb_defs.specs.Slot.{Slot, slot_at}
+use Rattle.gb_defs.specs.Slot.{Slot}
 use Rattle.gb_defs.specs.Column.{ColumnValue, Frame, content, find_column, taken}
-use Rattle.gb_defs.specs.Classes.{agree_by, class, firsts, groups, rows_below, same_slot, stretched}
+use Rattle.gb_defs.specs.Classes.{agree_by, class, firsts, groups, same_slot, stretched}
 use Rattle.gb_defs.specs.Fold.{Method}
 use Rattle.gb_defs.specs.Groups.{first_of, rows_of_pair}
 use Rattle.gb_defs.specs.Answer.{height_of, agree_of, aggregated, answer, key_at, kept_rows, stretched_key}

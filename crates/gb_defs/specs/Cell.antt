@@ -1,15 +1,15 @@
 -- How a cell of a table's text reads as a slot, by the type of its column. A field that is the null word
 -- is null; every other field is a value. A category reads as its text: codes are given to a column as a
 -- whole (`Table`).
-use Rattle.std.specs.Prelude.{ℕ, suc, ◌+◌, ◌-◌, ◌*◌, ◌^◌, ◌==◌, nat_le, nat_lt, Bool, true, false, not, ◌&&◌, ℤ, pos, negsuc, List, [], ◌∷◌, ◌++◌, length, Option, Some, None, option_map, codes, if◌then◌else◌}
+use Rattle.std.specs.Prelude.{ℕ, ◌+◌, ◌-◌, ◌*◌, ◌^◌, ◌==◌, nat_le, nat_lt, Bool, true, false, not, ◌&&◌, ℤ, pos, negsuc, List, [], ◌∷◌, ◌++◌, length, Option, Some, None, option_map, codes, if◌then◌else◌}
 use Rattle.std.specs.Char.{digit_value, is_ascii_hexdigit}
 use Rattle.std.specs.List.{after_first, before_first}
 use Rattle.std.specs.Str.{bytes_eq, is_utf8, all_ascii_digits}
 use Rattle.std.specs.Str.Parse.{without_leading_plus, without_leading_sign, starts_with_minus, signed_digits_value, digits_value}
-use Rattle.std.specs.Int.{Width, w32, w64, w128}
+use Rattle.std.specs.Int.{Width, w32, w64}
 use mir.Val.{bits, hbits}
 use Rattle.gb_defs.specs.Slot.{Slot, Nil, Num, Bytes}
-use Rattle.gb_defs.specs.ColumnType.{FlatType, Null, Boolean, Unsigned, Signed, Decimal, Date, Time, Datetime, Duration, String, Binary, Categorical, ColumnType, Flat, ListOf, ArrayOf, StructOf}
+use Rattle.gb_defs.specs.ColumnType.{FlatType, Boolean, Unsigned, Signed, Decimal, Date, Time, Datetime, Duration, String, Binary, Categorical, ColumnType, Flat, ListOf, ArrayOf, StructOf}
 use Rattle.gb_defs.specs.TypeWord.{scale_of}
 
 -- one decimal digit or more, and nothing else

@@ -1,8 +1,8 @@
 -- How a slot is printed, by its type.
-use Rattle.std.specs.Prelude.{ℕ, suc, ◌+◌, ◌-◌, ◌*◌, ◌/◌, ◌%◌, ◌^◌, ◌==◌, nat_lt, Bool, true, false, ℤ, pos, negsuc, List, [], ◌∷◌, ◌++◌, length, replicate, flat_map, Option, Some, None, codes, decimal, slice_index_or, if◌then◌else◌}
-use Rattle.std.specs.Fmt.{signed_decimal, sign_text}
+use Rattle.std.specs.Prelude.{ℕ, suc, ◌+◌, ◌-◌, ◌/◌, ◌%◌, ◌^◌, ◌==◌, nat_lt, Bool, true, false, ℤ, pos, negsuc, List, [], ◌∷◌, ◌++◌, length, replicate, flat_map, Option, Some, None, codes, decimal, slice_index_or, if◌then◌else◌}
+use Rattle.std.specs.Fmt.{signed_decimal}
 use Rattle.gb_defs.specs.Slot.{Slot, Slots, Nil, Num, Bytes, Items, End, And}
-use Rattle.gb_defs.specs.ColumnType.{FlatType, Boolean, Decimal, String, Binary, BinaryOffset, Categorical, Enum, ColumnType, Flat, part_type}
+use Rattle.gb_defs.specs.ColumnType.{Boolean, Decimal, String, Binary, BinaryOffset, Categorical, Enum, ColumnType, Flat, part_type}
 use Rattle.gb_defs.specs.Order.{code_number}
 use Rattle.gb_defs.specs.TypeWord.{scale_of}
 

@@ -2,11 +2,11 @@
 -- with no header row and no trimming, from the bytes after a byte order mark. Faults come in reading
 -- order; rows count from 0, the header, and columns from 1. A header field that names a type of which no
 -- cell is read yet is a bad cell of the header.
-use Rattle.std.specs.Prelude.{ℕ, suc, pos, ◌==◌, Bool, true, not, ◌||◌, ◌&&◌, List, [], ◌∷◌, ◌++◌, map, length, position, Option, Some, None, unwrap_or, Result, Ok, Err, if◌then◌else◌}
+use Rattle.std.specs.Prelude.{ℕ, suc, pos, ◌==◌, Bool, true, not, ◌&&◌, List, [], ◌∷◌, ◌++◌, map, length, position, Option, Some, None, unwrap_or, Result, Ok, Err, if◌then◌else◌}
 use Rattle.std.specs.Str.{bytes_eq, is_utf8}
 use Rattle.std.specs.List.{list_any, before_last, after_last}
 use Rattle.csv.specs.Reading.{records, default_config, strip_bom}
-use Rattle.gb_defs.specs.Slot.{Slot, Nil, Num, Bytes, slot_at}
+use Rattle.gb_defs.specs.Slot.{Slot, Num, Bytes, slot_at}
 use Rattle.gb_defs.specs.ColumnType.{CategoricalOrdering, Categorical, ColumnType, FlatType, Flat, text}
 use Rattle.gb_defs.specs.Column.{ColumnValue, Frame, NotSorted, fresh_column}
 use Rattle.gb_defs.specs.TypeWord.{type_of_word}

@@ -1,5 +1,5 @@
 -- Requests, columns and slots of the worked rows.
-use Rattle.std.specs.Prelude.{ℕ, Bool, true, List, [], ◌∷◌, Option, Some, None, codes, negsuc, pos, ◌^◌, ◌-◌, map, replicate}
+use Rattle.std.specs.Prelude.{ℕ, Bool, true, List, [], ◌∷◌, Option, Some, None, codes, negsuc, pos, ◌^◌, ◌-◌, replicate}
 use Rattle.std.specs.Int.{w64}
 use Rattle.gb_defs.specs.Slot.{Slot, Nil, Num, Bytes, slot_at}
 use Rattle.gb_defs.specs.ColumnType.{CategoricalOrdering, ColumnType, Categorical, Decimal, Enum, Flat, Lexical, int64, text}

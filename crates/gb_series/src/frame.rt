@@ -9,6 +9,7 @@ ghost use Rattle.gb_cols.specs.PolarsError.{Explains};
 
 use crate::series::{Column, Series};
 use gb_cols::error::{PolarsError, PolarsResult};
+use gb_cols::nullable_idx::IdxSize;
 use gb_cols::small_str::PlSmallStr;
 use std::marker::Model;
 
@@ -109,7 +110,7 @@ impl DataFrame {
     }
 
     /// The slots of these rows, in one chunk a column.
-    pub fn take(&self, rows: &[u32]) -> PolarsResult<DataFrame>
+    pub fn take(&self, rows: &[IdxSize]) -> PolarsResult<DataFrame>
         requires { All (λ row. row < frame_height self.now) rows.now }
         ensures ok { IfOk result (λ f. f ≡ map (taken rows.now) self.now) }
         ensures err { IfErr result IsNoMemory }

@@ -11,6 +11,7 @@ ghost use Rattle.gb_cols.specs.DataType.{type_of};
 use gb_cols::chunked::{Int64Chunked, StringChunked, UInt32Chunked};
 use gb_cols::data_type::DataType;
 use gb_cols::error::PolarsResult;
+use gb_cols::nullable_idx::IdxSize;
 use gb_cols::small_str::PlSmallStr;
 
 /// A named column of any type.
@@ -91,7 +92,7 @@ impl Series {
     }
 
     /// The slots of these rows, in one chunk.
-    pub fn take(&self, rows: &[u32]) -> PolarsResult<Series>
+    pub fn take(&self, rows: &[IdxSize]) -> PolarsResult<Series>
         requires { All (λ row. row < length (value_of self.now).slots) rows.now }
         ensures ok { IfOk result (λ s. value_of s ≡ taken rows.now (value_of self.now)) }
         ensures err { IfErr result IsNoMemory }

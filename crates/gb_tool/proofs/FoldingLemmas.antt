@@ -13,7 +13,7 @@ use Rattle.gb_defs.specs.Fold.{Sum, Count, fold_picked, fold_of, number_slot, su
 use Rattle.gb_defs.proofs.FoldLemmas.{sum_push_null, sum_push_value}
 use Rattle.gb_cols.specs.Array.{number_slot_of}
 use Rattle.gb_cols.specs.Column.{pushed}
-use Rattle.gb_tool.proofs.PushLemmas.{pushed_plain}
+use Rattle.gb_tool.proofs.PushLemmas.{pushed_fresh}
 
 -- the columns are the aggregates
 module _ (name : List ℕ) (c : ColumnValue) (lists : List (List ℕ)) where
@@ -46,6 +46,6 @@ module _ (lists : List (SmallVec ℕ)) (i : ℕ) (rows : SmallVec ℕ) (lt : i <
   pub column_next : (f : List ℕ → Slot) (name : List ℕ) (t : ColumnType) (old new : ColumnValue) (s : Slot) → new ≡ pushed old s → s ≡ f rows.items →
       old ≡ fresh_column name t (map f (take i (lists_of lists))) → new ≡ fresh_column name t (map f (take (i + 1) (lists_of lists)))
   column_next f name t old new s e at h =
-      e ∙ ap (λ c. pushed c s) h ∙ pushed_plain name t (map f (take i (lists_of lists))) s
+      e ∙ ap (λ c. pushed c s) h ∙ pushed_fresh name t (map f (take i (lists_of lists))) s
       ∙ ap (λ r. fresh_column name t (map f (take i (lists_of lists)) ++ r ∷ [])) (at ∙ ap f (sym list_at))
       ∙ ap (fresh_column name t) (sym (map_more f (lists_of lists) i [] list_in))

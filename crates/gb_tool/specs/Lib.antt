@@ -1,3 +1,4 @@
+pub mod FaultText
 pub mod Folds
 pub mod Grouping
 pub mod Head

@@ -22,7 +22,7 @@ use gb_cols::error::{Operation, PolarsError, PolarsResult};
 use gb_cols::numeric::PolarsNumericType;
 use gb_cols::primitive::PrimitiveArray;
 use gb_cols::small_str::PlSmallStr;
-use gb_groups::groups_idx::IdxVec;
+use gb_groups::groups_idx::{IdxSize, IdxVec};
 use gb_series::series::Series;
 use std::alloc::Global;
 
@@ -125,7 +125,7 @@ fn sums<T: PolarsNumericType>(
 }
 
 // The sum at these rows.
-fn sum_at<T: PolarsNumericType>(column: &ChunkedArray<PrimitiveArray<T>>, rows: &[u32]) -> T::Native
+fn sum_at<T: PolarsNumericType>(column: &ChunkedArray<PrimitiveArray<T>>, rows: &[IdxSize]) -> T::Native
     requires { All (λ row. row < length column.now.slots) rows.now }
     ensures { T.number result ≡ wrap T.dtype (total (valid (picked column.now.slots rows.now))) }
 {
@@ -213,7 +213,7 @@ fn valid_counts(
 }
 
 // The number of valid slots at these rows.
-fn valid_at(column: &Series, rows: &[u32]) -> u32
+fn valid_at(column: &Series, rows: &[IdxSize]) -> u32
     requires rows { AreRows (length (value_of column.now).slots) rows.now }
     requires short { HasRowNumbers (length (value_of column.now).slots) }
     ensures { result ≡ length (valid (picked (value_of column.now).slots rows.now)) }

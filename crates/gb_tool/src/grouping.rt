@@ -24,7 +24,7 @@ use gb_cols::device::Gate;
 use gb_cols::error::{PolarsError, PolarsResult};
 use gb_cols::pool::Pool;
 use gb_cols::small_str::PlSmallStr;
-use gb_groups::groups_idx::IdxVec;
+use gb_groups::groups_idx::{IdxSize, IdxVec};
 use gb_groups::groups_type::GroupsType;
 use gb_paths::into_groups::group_tuples_gated;
 use gb_series::frame::DataFrame;
@@ -123,7 +123,7 @@ fn answer_columns(
     frame: &DataFrame,
     key: &Series,
     aggs: &[Agg],
-    firsts: &[u32],
+    firsts: &[IdxSize],
     lists: &[IdxVec],
 ) -> PolarsResult<Vec<Series>>
     requires frame { IsFrame frame.now }

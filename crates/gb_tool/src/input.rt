@@ -52,6 +52,7 @@ pub fn read_all<S: Source>(alloc: Global, source: &mut S, limit: u64) -> Result<
     let mut room = vec![in alloc; 0; ROOM]?;
     let room = room.as_mut_slice();
     let mut bytes = Vec::new(alloc);
+    // The label names the loop in its proof.
     'pieces: for _ in 0..u64::MAX {
         let count = read_piece(source, room, &mut bytes)?;
         if count == 0 {

@@ -4,6 +4,7 @@ ghost use Rattle.std.specs.Prelude.{◌≡◌};
 
 use gb_cols::error::PolarsError;
 use std::alloc::AllocError;
+use std::fmt;
 use thiserror::Error;
 
 /// Where a table's text is at fault. Rows count from 0, the header, and columns from 1.
@@ -20,10 +21,30 @@ pub enum TableFault {
     BadCell(u64, u64),
 }
 
+impl fmt::Display for TableFault {
+    ghost use Rattle.std.specs.Prelude.{Some};
+    ghost use Rattle.gb_tool.specs.FaultText.{fault_text};
+
+    ghost output = { λ fault. Some (fault_text fault) };
+
+    fn fmt<W: fmt::Write>(&self, f: &mut fmt::Formatter<W>) -> fmt::Result {
+        match self {
+            TableFault::NoHeader => write!(f, "no header"),
+            TableFault::SameName(column) => write!(f, "column {column}: name used before"),
+            TableFault::Ragged(row, found, wanted) => {
+                write!(f, "row {row}: {found} fields, {wanted} wanted")
+            }
+            TableFault::BadCell(row, column) => {
+                write!(f, "row {row}, column {column}: bad cell")
+            }
+        }
+    }
+}
+
 /// Why a table was not read.
 #[derive(Debug, Drop, Error)]
 pub enum TableError {
-    #[error("table")]
+    #[error("table: {0}")]
     Fault(TableFault),
     #[error("no memory")]
     NoMemory,

@@ -3,7 +3,7 @@
 ghost use Rattle.std.specs.Prelude.{◌≤◌};
 
 use crate::run::{Limits, run};
-use crate::status::{Status, TableFault};
+use crate::status::{Status, TableError, TableFault};
 use gb_cols::device::{Failed, Gate, Source};
 use gb_cols::error::PolarsError;
 use gb_cols::memory::{FreeGate, MemSink, SoundSource};
@@ -238,6 +238,25 @@ fn bad_tables_tell_the_place(rt: HostRuntime) -> Result<(), Fail> {
         assert_eq!(rt; told, Some(row.fault));
         assert!(rt; sink.bytes().is_empty());
     }
+    Ok(())
+}
+
+#[test]
+fn table_errors_print_their_lines(rt: HostRuntime) -> Result<(), Fail> {
+    let rows = [
+        (TableFault::NoHeader, "table: no header"),
+        (TableFault::SameName(2), "table: column 2: name used before"),
+        (TableFault::Ragged(5, 1, 2), "table: row 5: 1 fields, 2 wanted"),
+        (TableFault::BadCell(1, 3), "table: row 1, column 3: bad cell"),
+    ];
+    for (fault, line) in rows {
+        let error = TableError::Fault(fault);
+        let printed = format!(in rt.alloc(); "{error}")?;
+        assert_eq!(rt; printed.as_str(), line);
+    }
+    let error = TableError::NoMemory;
+    let printed = format!(in rt.alloc(); "{error}")?;
+    assert_eq!(rt; printed.as_str(), "no memory");
     Ok(())
 }
 

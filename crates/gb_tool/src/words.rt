@@ -5,7 +5,7 @@ pub mod numbers;
 
 ghost use Rattle.std.specs.Prelude.{◌≡◌, IfErr, IfOk, map, option_map};
 ghost use Rattle.std.specs.String.{string_bytes};
-ghost use Rattle.gb_defs.specs.Request as spelled;
+ghost use Rattle.gb_defs.specs.Request as asked;
 ghost use Rattle.gb_cols.specs.PlSmallStr.{IsNoMemory, name_of};
 ghost use Rattle.gb_tool.specs.Request as made;
 ghost use Rattle.gb_tool.specs.Words.{given_of, numbers_of};
@@ -20,7 +20,7 @@ use std::alloc::Global;
 // What options give, None where there is one that is at fault.
 fn given_from(alloc: Global, options: &[String]) -> PolarsResult<Option<Given>>
     ensures ok { IfOk result (λ o. option_map given_of o
-        ≡ spelled.given_from (map string_bytes options.now) spelled.nothing) }
+        ≡ asked.given_from (map string_bytes options.now) asked.nothing) }
     ensures err { IfErr result IsNoMemory }
 {
     let mut given = Given::nothing(alloc);
@@ -50,7 +50,7 @@ fn given_from(alloc: Global, options: &[String]) -> PolarsResult<Option<Given>>
 // The defaults filled in.
 fn options_of(numbers: Numbers, null_word: PlSmallStr, explain: bool) -> ToolOptions
     ensures { made.options_of result
-        ≡ spelled.options_of (numbers_of numbers) (name_of null_word) explain }
+        ≡ asked.options_of (numbers_of numbers) (name_of null_word) explain }
 {
     let workers = numbers.workers.unwrap_or(4);
     ToolOptions {
@@ -67,7 +67,7 @@ fn options_of(numbers: Numbers, null_word: PlSmallStr, explain: bool) -> ToolOpt
 // The request of what was given, None where there is not exactly one key.
 fn group_of(alloc: Global, given: Given) -> PolarsResult<Option<Request>>
     ensures ok { IfOk result (λ o. option_map made.request_of o
-        ≡ spelled.group_of (given_of given)) }
+        ≡ asked.group_of (given_of given)) }
     ensures err { IfErr result IsNoMemory }
 {
     let Given {
@@ -94,7 +94,7 @@ fn group_of(alloc: Global, given: Given) -> PolarsResult<Option<Request>>
 /// The request that the words spell, None where they spell none.
 pub fn request_of(alloc: Global, words: &[String]) -> PolarsResult<Option<Request>>
     ensures ok { IfOk result (λ o. option_map made.request_of o
-        ≡ spelled.request (map string_bytes words.now)) }
+        ≡ asked.request (map string_bytes words.now)) }
     ensures err { IfErr result IsNoMemory }
 {
     let Some((command, options)) = words.split_first() else {

@@ -1,7 +1,7 @@
 //! What the words gave so far, and what one option more makes of it.
 
 ghost use Rattle.std.specs.Prelude.{◌≡◌, IfErr, IfOk, option_map};
-ghost use Rattle.gb_defs.specs.Request as spelled;
+ghost use Rattle.gb_defs.specs.Request as asked;
 ghost use Rattle.gb_cols.specs.PlSmallStr.{IsNoMemory};
 ghost use Rattle.gb_tool.specs.Request as made;
 ghost use Rattle.gb_tool.specs.Words.{given_of};
@@ -34,7 +34,7 @@ fn new_agg(alloc: Global, column: &str, method: GroupByMethod) -> PolarsResult<A
 
 // The aggregate that METHOD:NAME asks.
 fn agg_of(alloc: Global, word: &str) -> PolarsResult<Option<Agg>>
-    ensures ok { IfOk result (λ o. option_map made.agg_of o ≡ spelled.agg_of word.now) }
+    ensures ok { IfOk result (λ o. option_map made.agg_of o ≡ asked.agg_of word.now) }
     ensures err { IfErr result IsNoMemory }
 {
     if let Some(column) = word.strip_prefix("sum:") {
@@ -51,7 +51,7 @@ fn agg_of(alloc: Global, word: &str) -> PolarsResult<Option<Agg>>
 
 impl Given {
     pub fn nothing(alloc: Global) -> Given
-        ensures { given_of result ≡ spelled.nothing }
+        ensures { given_of result ≡ asked.nothing }
     {
         Given {
             by: Vec::new(alloc),
@@ -64,7 +64,7 @@ impl Given {
 
     fn with_key(mut self, alloc: Global, word: &str) -> PolarsResult<Option<Given>>
         ensures ok { IfOk result (λ o. option_map given_of o
-            ≡ spelled.with_key word.now (given_of self)) }
+            ≡ asked.with_key word.now (given_of self)) }
         ensures err { IfErr result IsNoMemory }
     {
         self.by.push(PlSmallStr::from_str(alloc, word)?)?;
@@ -73,7 +73,7 @@ impl Given {
 
     fn with_agg(mut self, alloc: Global, word: &str) -> PolarsResult<Option<Given>>
         ensures ok { IfOk result (λ o. option_map given_of o
-            ≡ spelled.with_agg word.now (given_of self)) }
+            ≡ asked.with_agg word.now (given_of self)) }
         ensures err { IfErr result IsNoMemory }
     {
         let Some(agg) = agg_of(alloc, word)? else {
@@ -85,7 +85,7 @@ impl Given {
 
     fn with_null_word(mut self, alloc: Global, word: &str) -> PolarsResult<Option<Given>>
         ensures ok { IfOk result (λ o. option_map given_of o
-            ≡ spelled.with_null_word word.now (given_of self)) }
+            ≡ asked.with_null_word word.now (given_of self)) }
         ensures err { IfErr result IsNoMemory }
     {
         if self.null_word.is_some() {
@@ -97,7 +97,7 @@ impl Given {
 
     fn with_number(mut self, option: &str, word: &str) -> Option<Given>
         ensures { option_map given_of result
-            ≡ spelled.with_numbers option.now word.now (given_of self) }
+            ≡ asked.with_numbers option.now word.now (given_of self) }
     {
         self.numbers = self.numbers.with(option, word)?;
         Some(self)
@@ -105,7 +105,7 @@ impl Given {
 
     /// With `--explain`. None where it was given before.
     pub fn with_explain(mut self) -> Option<Given>
-        ensures { option_map given_of result ≡ spelled.with_explain (given_of self) }
+        ensures { option_map given_of result ≡ asked.with_explain (given_of self) }
     {
         if self.explain {
             return None;
@@ -118,7 +118,7 @@ impl Given {
     /// come again, or its value does not read.
     pub fn with_option(self, alloc: Global, option: &str, word: &str) -> PolarsResult<Option<Given>>
         ensures ok { IfOk result (λ o. option_map given_of o
-            ≡ spelled.with_option option.now word.now (given_of self)) }
+            ≡ asked.with_option option.now word.now (given_of self)) }
         ensures err { IfErr result IsNoMemory }
     {
         if option == "--by" {

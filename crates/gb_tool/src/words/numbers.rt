@@ -3,7 +3,7 @@
 ghost use Rattle.std.specs.Prelude.{◌≡◌, option_map};
 ghost use Rattle.std.specs.Char.{is_ascii_digit};
 ghost use Rattle.std.specs.List.{list_all};
-ghost use Rattle.gb_defs.specs.Request as spelled;
+ghost use Rattle.gb_defs.specs.Request as asked;
 ghost use Rattle.gb_tool.specs.Words.{numbers_of};
 
 /// The numbers that were given so far.
@@ -24,7 +24,7 @@ fn is_digits(word: &str) -> bool
 
 // One to twenty digits, in range.
 fn number_within(least: u64, most: u64, word: &str) -> Option<u64>
-    ensures { result ≡ spelled.number_within least most word.now }
+    ensures { result ≡ asked.number_within least most word.now }
 {
     if word.is_empty() || word.len() > 20 || !is_digits(word) {
         return None;
@@ -38,7 +38,7 @@ fn number_within(least: u64, most: u64, word: &str) -> Option<u64>
 
 // The value of what was not given before.
 fn once(before: Option<u64>, value: Option<u64>) -> Option<u64>
-    ensures { result ≡ spelled.once before value }
+    ensures { result ≡ asked.once before value }
 {
     match before {
         None => value,
@@ -48,7 +48,7 @@ fn once(before: Option<u64>, value: Option<u64>) -> Option<u64>
 
 impl Numbers {
     pub fn none() -> Numbers
-        ensures { numbers_of result ≡ spelled.no_numbers }
+        ensures { numbers_of result ≡ asked.no_numbers }
     {
         Numbers {
             workers: None,
@@ -62,7 +62,7 @@ impl Numbers {
     /// With one more. None where the option is unknown, was given before, or its value is none.
     pub fn with(mut self, option: &str, word: &str) -> Option<Numbers>
         ensures { option_map numbers_of result
-            ≡ spelled.with_number option.now word.now (numbers_of self) }
+            ≡ asked.with_number option.now word.now (numbers_of self) }
     {
         if option == "--workers" {
             self.workers = Some(once(self.workers, number_within(1, 64, word))?);

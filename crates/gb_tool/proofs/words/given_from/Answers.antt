@@ -1,12 +1,12 @@
 use Rattle.std.proofs.Common.{map, option_map, ap, sym, ◌∙◌, arith}
 use Rattle.std.specs.String.{string_bytes}
-use Rattle.gb_defs.specs.Request as spelled
+use Rattle.gb_defs.specs.Request as asked
 use Rattle.gb_tool.specs.Words.{given_of}
 use Rattle.gb_tool.proofs.WordsLemmas.{alone, at_end, explain_more, option_more}
 use Rattle.gb_tool.proofs.words.given_from.Goals as goal
 
 pub loop-option-init : goal.loop-option-init
-loop-option-init c = ap (spelled.given_from (map string_bytes c.args.options.now)) (sym c.nothing-given.ensures)
+loop-option-init c = ap (asked.given_from (map string_bytes c.args.options.now)) (sym c.nothing-given.ensures)
 
 pub returns-in_default-with_explain-clause-ok : goal.returns-in_default-with_explain-clause-ok
 returns-in_default-with_explain-clause-ok c =
