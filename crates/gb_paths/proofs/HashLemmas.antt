@@ -1,7 +1,7 @@
 -- The hashes of rows that follow each other, and lists of rows that have them.
-use Rattle.std.proofs.Common.{◌≡◌, ℕ, zero, suc, ◌+◌, ◌<◌, ◌≤◌, List, ◌∷◌, ◌++◌, length, get_or, map, take, drop, ◌∙◌, ap, sym, arith, zero-add}
+use Rattle.std.proofs.Common.{◌≡◌, ℕ, ◌+◌, ◌<◌, ◌≤◌, List, length, get_or, map, take, drop, ◌∙◌, ap, sym, arith, zero-add}
 use Rattle.std.specs.List.{range_with_len}
-use Rattle.std.proofs.lemmas.List.{drop-map, get_or-map, length-append, length-map}
+use Rattle.std.proofs.lemmas.List.{drop-map, get_or-map, length-map}
 use Rattle.std.proofs.lemmas.List.Elements.{All-drop, All-take}
 use Rattle.std.proofs.lemmas.List.FromFn.{get_or-range_with_len, length-range_with_len}
 use Rattle.smallvec.specs.SmallVec.{SmallVec}
@@ -12,17 +12,6 @@ use Rattle.gb_groups.specs.Groups.{lists_of}
 use Rattle.gb_paths.specs.Partitions.{AreListed}
 use Rattle.gb_paths.proofs.MemberLemmas.{take_lists}
 
--- what a function gives over two ranges that follow each other
-ranges_joined : (f : ℕ → ℕ) (a m n : ℕ) → map f (range_with_len a m) ++ map f (range_with_len (a + m) n) ≡ map f (range_with_len a (m + n))
-ranges_joined f a zero n =
-    let from : a + 0 ≡ a = omega arith in
-    let all : 0 + n ≡ n = omega arith in
-    rw (from, all)
-ranges_joined f a (suc m) n =
-    let from : a + suc m ≡ a + 1 + m = omega arith in
-    let all : suc m + n ≡ suc (m + n) = omega arith in
-    rw (from, all) (ap (λ xs. f a ∷ xs) (ranges_joined f (a + 1) m n))
-
 pub hashes_long : (hash : ℕ → ℕ) (start n : ℕ) (hashes : List ℕ) → hashes ≡ map hash (range_with_len start n) → length hashes ≡ n
 hashes_long hash start n hashes e = ap length e ∙ length-map (range_with_len start n) hash ∙ length-range_with_len start n
 
@@ -30,19 +19,6 @@ pub hashed_from : (rows : Rows) (start n : ℕ) (hashes : List ℕ) → start + 
 hashed_from rows start n hashes within e =
     let long : length hashes ≡ n = hashes_long rows.hash start n hashes e in
     record { within = omega (arith, long, within); are = e ∙ ap (λ m. map rows.hash (range_with_len start m)) (sym long) }
-
--- two lists of hashes that follow each other
-pub hashes_joined : (rows : Rows) (start next : ℕ) (front back : List ℕ) → start + length front ≡ next → AreHashes rows start front → AreHashes rows next back → AreHashes rows start (front ++ back)
-hashes_joined rows start next front back follows first later =
-    let whole : length (front ++ back) ≡ length front + length back = length-append front back in
-    let from : back ≡ map rows.hash (range_with_len (start + length front) (length back)) = later.are ∙ ap (λ k. map rows.hash (range_with_len k (length back))) (sym follows) in
-    record {
-      within = omega (arith, whole, follows, later.within);
-      are = ap (λ xs. xs ++ back) first.are
-          ∙ ap (λ ys. map rows.hash (range_with_len start (length front)) ++ ys) from
-          ∙ ranges_joined rows.hash start (length front) (length back)
-          ∙ ap (λ m. map rows.hash (range_with_len start m)) (sym whole);
-    }
 
 -- the hashes of all rows
 pub all_hashed : (rows : Rows) (hashes : List ℕ) → AreHashes rows 0 hashes → length hashes ≡ rows.count → hashes ≡ map rows.hash (rows_below rows.count)

@@ -7,6 +7,7 @@ use Rattle.gb_defs.specs.Hash.{partition_of}
 use Rattle.gb_defs.specs.Partitions.{in_partition}
 use Rattle.gb_defs.specs.Rows.{Rows, AreHashes}
 use Rattle.gb_groups.specs.Groups.{pairs_of}
+use Rattle.gb_paths.specs.Numbers.{groups_among}
 
 -- so many rows from `start` on are among the rows, whose numbers fit 64 bits
 pub record HasRows (rows : Rows) (start n : ℕ) : Type 0 where
@@ -30,3 +31,7 @@ pub record AreListed (rows : Rows) (hashes : List ℕ) (lists : List (List ℕ))
 -- the groups of each part
 abbrev pub groups_of_parts : {A : Type 0} → List (Vec (ℕ × SmallVec ℕ) A) → List (List (ℕ × List ℕ))
 groups_of_parts parts = map (λ part. pairs_of part.items) parts
+
+-- the groups of the rows of each list
+abbrev pub groups_of_lists : Rows → List (SmallVec ℕ) → List (List (ℕ × List ℕ))
+groups_of_lists rows lists = map (λ list. groups_among rows list.items) lists

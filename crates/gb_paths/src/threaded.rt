@@ -1,16 +1,15 @@
 //! Groups by a table for each partition of the hashes. The partitions are dealt to the workers, each of
 //! which takes its own one after another.
 
-ghost use Rattle.std.specs.Prelude.{◌≡◌, ℕ, ◌<◌, ◌≤◌, map, length, IfOk, IfErr};
+ghost use Rattle.std.specs.Prelude.{◌≡◌, ◌+◌, ◌<◌, ◌≤◌, map, length, take, drop, IfOk, IfErr};
 ghost use Rattle.gb_defs.specs.Groups.{AreMembers, HasRowNumbers, IsWellFormed};
 ghost use Rattle.gb_defs.specs.Rows.{AreHashes, hashed_groups, rows_of_slots};
 ghost use Rattle.gb_cols.specs.PlSmallStr.{IsNoMemory};
-ghost use Rattle.gb_flat.specs.Shares.{DealsOut};
 ghost use Rattle.gb_groups.specs.Groups.{lists_of, pairs_of};
 ghost use Rattle.gb_groups.specs.GroupsType.{groups_of};
 ghost use Rattle.gb_hash.specs.Keys.{key_slots};
 ghost use Rattle.gb_paths.specs.Numbers.{groups_among};
-ghost use Rattle.gb_paths.specs.Partitions.{AreListed, groups_of_parts};
+ghost use Rattle.gb_paths.specs.Partitions.{AreListed, groups_of_lists, groups_of_parts};
 
 use crate::partitions::partition_rows;
 use crate::row_groups::group_members;
@@ -19,7 +18,7 @@ use gb_cols::device::Gate;
 use gb_cols::error::PolarsResult;
 use gb_cols::nullable_idx::IdxSize;
 use gb_cols::pool::Pool;
-use gb_flat::offsets::split_offsets;
+use gb_flat::shares::{join_shares, map_shares};
 use gb_groups::groups_idx::{GroupsIdx, IdxItem, IdxVec};
 use gb_groups::groups_type::GroupsType;
 use gb_hash::dirty_hash::DirtyHash;
@@ -31,7 +30,7 @@ use std::alloc::Global;
 use std::hash::Hash;
 use std::marker::Brand;
 use std::sync::ledger::{Blank, Ledger};
-use std::thread::{Threads, join};
+use std::thread::Threads;
 
 /// The rows that hold one key, by the partition of their hash and then by first row; where `sorted`, by
 /// first row and flagged. Each partition enters the gate with its number, and leaves it.
@@ -105,110 +104,38 @@ fn deal_partitions<T: Threads + Sync, R: KeyRows, G: Gate + Sync>(
         ≡ map (groups_among (R.rows rows.now)) (lists_of members.now)) }
     ensures err { IfErr result IsNoMemory }
 {
-    let workers = pool.workers().min(members.len());
-    if workers < 2 {
-        return group_partitions(alloc, rows, members, hashes, 0, gate);
-    }
-    let shares = split_offsets(alloc, members.len(), workers)?;
-    group_shares(rt, alloc, rows, members, hashes, 0, &shares, gate)
+    let workers = pool.workers().min(members.len()).max(1);
+    let part = |share: (usize, usize)|
+        requires { share.0 + share.1 ≤ length members.now
+            × AreListed (R.rows rows.now) hashes.now (lists_of members.now) }
+        ensures { IfOk result (λ parts. groups_of_parts parts.items
+            ≡ groups_of_lists (R.rows rows.entry.now) (take share.1 (drop share.0 members.entry.now)))
+            × IfErr result IsNoMemory }
+    { group_partitions(alloc, rows, members, hashes, share, gate) };
+    let made = map_shares(rt, alloc, members.len(), workers, &part)?;
+    Ok(join_shares(alloc, made)?)
 }
 
-// The same, each share of the partitions but the last in a thread of its own.
-#[cycle(shares)]
-fn group_shares<T: Threads + Sync, R: KeyRows, G: Gate + Sync>(
-    rt: &T,
-    alloc: Global,
-    rows: &R,
-    members: &[IdxVec],
-    hashes: &[u64],
-    start: usize,
-    shares: &[(usize, usize)],
-    gate: &G,
-) -> PolarsResult<Vec<Vec<IdxItem>>>
-    requires listed { AreListed (R.rows rows.now) hashes.now (lists_of members.now) }
-    requires dealt { DealsOut shares.now (length members.now) }
-    ensures ok { IfOk result (λ parts. groups_of_parts parts.items
-        ≡ map (groups_among (R.rows rows.now)) (lists_of members.now)) }
-    ensures err { IfErr result IsNoMemory }
-{
-    let Some((share, later)) = shares.split_first() else {
-        return group_partitions(alloc, rows, members, hashes, start, gate);
-    };
-    if later.is_empty() {
-        return group_partitions(alloc, rows, members, hashes, start, gate);
-    }
-    let (mine, others) = members.split_at(share.1);
-    let next = start.wrapping_add(share.1);
-    let (parts, rest) = group_both(
-        rt, alloc, rows, mine, others, hashes, start, next, later, gate,
-    );
-    let mut parts = parts?;
-    parts.append(&mut rest?)?;
-    Ok(parts)
-}
-
-// One share in another thread, and meanwhile the later ones.
-#[cycle(shares)]
-fn group_both<T: Threads + Sync, R: KeyRows, G: Gate + Sync>(
-    rt: &T,
-    alloc: Global,
-    rows: &R,
-    mine: &[IdxVec],
-    others: &[IdxVec],
-    hashes: &[u64],
-    start: usize,
-    next: usize,
-    later: &[(usize, usize)],
-    gate: &G,
-) -> (
-    PolarsResult<Vec<Vec<IdxItem>>>,
-    PolarsResult<Vec<Vec<IdxItem>>>,
-)
-    requires mine { AreListed (R.rows rows.now) hashes.now (lists_of mine.now) }
-    requires others { AreListed (R.rows rows.now) hashes.now (lists_of others.now) }
-    requires dealt { DealsOut later.now (length others.now) }
-    ensures mine { IfOk result.0 (λ parts. groups_of_parts parts.items
-        ≡ map (groups_among (R.rows rows.now)) (lists_of mine.now)) }
-    ensures others { IfOk result.1 (λ parts. groups_of_parts parts.items
-        ≡ map (groups_among (R.rows rows.now)) (lists_of others.now)) }
-    ensures mine_err { IfErr result.0 IsNoMemory }
-    ensures others_err { IfErr result.1 IsNoMemory }
-{
-    join(
-        rt,
-        ||
-            requires { AreListed (R.rows rows.now) hashes.now (lists_of mine.now) }
-            ensures { IfOk result (λ parts. groups_of_parts parts.items
-                ≡ map (groups_among (R.rows rows.entry.now)) (lists_of mine.entry.now))
-                × IfErr result IsNoMemory }
-        { group_partitions(alloc, rows, mine, hashes, start, gate) },
-        ||
-            requires { AreListed (R.rows rows.now) hashes.now (lists_of others.now)
-                × DealsOut later.now (length others.now) }
-            ensures { IfOk result (λ parts. groups_of_parts parts.items
-                ≡ map (groups_among (R.rows rows.entry.now)) (lists_of others.entry.now))
-                × IfErr result IsNoMemory }
-        { group_shares(rt, alloc, rows, others, hashes, next, later, gate) },
-    )
-}
-
-// The groups of each partition, in order; the number of the first is given.
+// The groups of the partitions of a share, its first and how many they are, in order.
 fn group_partitions<R: KeyRows, G: Gate>(
     alloc: Global,
     rows: &R,
     members: &[IdxVec],
     hashes: &[u64],
-    start: usize,
+    share: (usize, usize),
     gate: &G,
 ) -> PolarsResult<Vec<Vec<IdxItem>>>
+    requires inside { share.0 + share.1 ≤ length members.now }
     requires listed { AreListed (R.rows rows.now) hashes.now (lists_of members.now) }
     ensures ok { IfOk result (λ parts. groups_of_parts parts.items
-        ≡ map (groups_among (R.rows rows.now)) (lists_of members.now)) }
+        ≡ groups_of_lists (R.rows rows.now) (take share.1 (drop share.0 members.now))) }
     ensures err { IfErr result IsNoMemory }
 {
-    let mut parts = Vec::with_capacity(alloc, members.len())?;
-    for (place, list) in members.iter().enumerate() {
-        let partition = start.wrapping_add(place) as u64;
+    let (start, count) = share;
+    let mine = &members[start..start + count];
+    let mut parts = Vec::with_capacity(alloc, count)?;
+    for (place, list) in mine.iter().enumerate() {
+        let partition = (start + place) as u64;
         parts.push_reserved(enter_partition(alloc, rows, list, hashes, partition, gate)?);
     }
     Ok(parts)

@@ -1,9 +1,8 @@
-use Rattle.std.proofs.Common.{◌≡◌, length, map, take}
-use Rattle.std.specs.List.{range_with_len}
+use Rattle.std.proofs.Common.{◌≡◌, ℕ, ◌+◌, ◌<◌, length, slice_index_or}
 use Rattle.gb_paths.proofs.row_hashes.fill_hashes.Given as goal
 
 abbrev pub invariant-loop-place : goal.invariant-loop-place
 invariant-loop-place g l = record {
-  filled : take l.place l.room ≡ map (g.R.KeyRows.rows l.rows).hash (range_with_len l.start l.place);
+  filled : (k : ℕ) (d : ℕ) → k < l.place → slice_index_or l.room k d ≡ (g.R.KeyRows.rows l.rows).hash (l.start + k);
   long : length l.room ≡ length l.initial.room;
 }
