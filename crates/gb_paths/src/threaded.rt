@@ -109,7 +109,8 @@ fn deal_partitions<T: Threads + Sync, R: KeyRows, G: Gate + Sync>(
         requires { share.0 + share.1 ≤ length members.now
             × AreListed (R.rows rows.now) hashes.now (lists_of members.now) }
         ensures { IfOk result (λ parts. groups_of_parts parts.items
-            ≡ groups_of_lists (R.rows rows.entry.now) (take share.1 (drop share.0 members.entry.now)))
+            ≡ groups_of_lists (R.rows rows.entry.now)
+            (take share.1 (drop share.0 members.entry.now)))
             × IfErr result IsNoMemory }
     { group_partitions(alloc, rows, members, hashes, share, gate) };
     let made = map_shares(rt, alloc, members.len(), workers, &part)?;
