@@ -11,54 +11,36 @@ use Rattle.std.proofs.lemmas.Bool.{le-ltb}
 use Rattle.gb_defs.specs.Column.{ColumnValue, Frame, IsFrame, all_have_length, content, find_column, first_repeated, frame_height}
 use Rattle.gb_defs.specs.Classes.{agree_by, class, firsts, groups, rows_below, same_slot}
 use Rattle.gb_defs.specs.Fold.{Method}
-use Rattle.gb_defs.specs.Groups.{HasRowNumbers, first_of, rows_of_pair}
+use Rattle.gb_defs.specs.Groups.{AreMembers, HasRowNumbers, IsWellFormed, first_of, rows_of_pair}
 use Rattle.gb_defs.specs.Answer.{agree_of, answer_names, height_of, kept_rows}
 use Rattle.gb_defs.specs.Fault.{Fault, duplicate_of, fault, keyless_fault, missing_fault, rows_fault, shape_fault, unfit_fault}
 use Rattle.gb_defs.specs.Outcome.{column_onto, find_columns, grouped}
 use Rattle.gb_defs.proofs.AnswerLemmas.{AreHigh, agree_high, agree_one, answer_high, answered, faulty, groups_firsts, groups_lists}
-use Rattle.gb_defs.proofs.ClassesLemmas.{firsts_below, firsts_few, rows_below_all}
+use Rattle.gb_defs.proofs.ClassesLemmas.{firsts_few}
 use Rattle.gb_cols.specs.PolarsError.{IsCause}
 use Rattle.gb_series.specs.Frame.{frame_fault}
 use Rattle.gb_series.proofs.FrameLemmas.{found_long}
-use Rattle.gb_tool.specs.Folds.{AreRows}
 use Rattle.gb_tool.specs.Grouping.{aggregates_over, answer_parts}
 use Rattle.gb_tool.proofs.CauseLemmas.{cause_first}
 use Rattle.gb_tool.proofs.PartLemmas.{parts_fault}
 
 -- ---- first rows and row lists of groups
 
-module _ (agree : ℕ → ℕ → Bool) (n : ℕ) where
-  class_within : (i : ℕ) → All (λ row. row < n) (class agree (rows_below n) i)
-  unfolding class
-  class_within i = All-filter (agree i) (λ row. row < n) (rows_below n) (All-from_recursion (λ row. row < n) (rows_below n) (rows_below_all n))
-
-  class_few : (i : ℕ) → length (class agree (rows_below n) i) ≤ n
-  unfolding class
-  class_few i = omega (arith, length-filter (agree i) (rows_below n), count_by-le-length (agree i) (rows_below n), length-range_with_len 0 n)
-
-  class_rows : (i : ℕ) → AreRows n (class agree (rows_below n) i)
-  class_rows i = record { within = class_within i; few = class_few i }
-
-  lists_rows : All (AreRows n) (map rows_of_pair (groups agree (rows_below n)))
-  lists_rows = rw (groups_lists agree (rows_below n)) (All-map (AreRows n) (class agree (rows_below n)) (firsts agree (rows_below n)) (λ k d lt. class_rows (slice_index_or (firsts agree (rows_below n)) k d)))
-
-  firsts_within : All (λ row. row < n) (map first_of (groups agree (rows_below n)))
-  firsts_within = rw (groups_firsts agree (rows_below n)) (All-from_get_or (λ row. row < n) (firsts agree (rows_below n)) 0 (λ i lt. firsts_below agree n i lt))
-
-  lists_few : length (map rows_of_pair (groups agree (rows_below n))) ≤ n
-  lists_few = rw (groups_lists agree (rows_below n), length-map (firsts agree (rows_below n)) (class agree (rows_below n))) (firsts_few agree n)
+lists_few : (agree : ℕ → ℕ → Bool) (n : ℕ) → length (map rows_of_pair (groups agree (rows_below n))) ≤ n
+lists_few agree n = rw (groups_lists agree (rows_below n), length-map (firsts agree (rows_below n)) (class agree (rows_below n))) (firsts_few agree n)
 
 -- these are the first rows and the row lists of the groups of the rows below n
 pub record AreGroups (agree : ℕ → ℕ → Bool) (n : ℕ) (rows : List ℕ) (lists : List (List ℕ)) : Type 0 where
   pub first_rows : rows ≡ map first_of (groups agree (rows_below n))
   pub row_lists : lists ≡ map rows_of_pair (groups agree (rows_below n))
+  pub formed : IsWellFormed n (groups agree (rows_below n))
 
 module _ (agree : ℕ → ℕ → Bool) (n : ℕ) (rows : List ℕ) (lists : List (List ℕ)) (are : AreGroups agree n rows lists) where
   pub rows_within : All (λ row. row < n) rows
-  rows_within = rw are.first_rows (firsts_within agree n)
+  rows_within = rw are.first_rows (All-map (λ row. row < n) first_of (groups agree (rows_below n)) (λ k d lt. (are.formed.fit k d lt).first))
 
-  pub rows_listed : All (AreRows n) lists
-  rows_listed = rw are.row_lists (lists_rows agree n)
+  pub rows_listed : All (AreMembers n) lists
+  rows_listed = rw are.row_lists (All-map (AreMembers n) rows_of_pair (groups agree (rows_below n)) (λ k d lt. (are.formed.fit k d lt).members))
 
   pub groups_few : length lists ≤ n
   groups_few = omega (arith, ap (λ (xs : List (List ℕ)). length xs) are.row_lists, lists_few agree n)
@@ -170,9 +152,13 @@ module _ (frame : Frame) (whole : IsFrame frame) (name : List ℕ) (names : List
 
 -- the groups of one key of the frame, from those of its slots
 pub are_groups : (frame : Frame) (key : ColumnValue) (pairs : List (ℕ × List ℕ)) (rows : List ℕ) (lists : List (List ℕ)) →
-    length key.slots ≡ height_of frame (key ∷ []) → pairs ≡ groups (same_slot key.slots) (rows_below (length key.slots)) →
+    length key.slots ≡ height_of frame (key ∷ []) → pairs ≡ groups (same_slot key.slots) (rows_below (length key.slots)) → IsWellFormed (length key.slots) pairs →
     rows ≡ map first_of pairs → lists ≡ map rows_of_pair pairs → AreGroups (agree_by (key.slots ∷ [])) (height_of frame (key ∷ [])) rows lists
-are_groups frame key pairs rows lists high e firsts_are lists_are =
+are_groups frame key pairs rows lists high e formed firsts_are lists_are =
     let here : pairs ≡ groups (agree_by (key.slots ∷ [])) (rows_below (height_of frame (key ∷ []))) =
     e ∙ ap (λ (a : ℕ → ℕ → Bool). groups a (rows_below (length key.slots))) (sym (agree_one key.slots)) ∙ ap (λ n. groups (agree_by (key.slots ∷ [])) (rows_below n)) high in
-    record { first_rows = firsts_are ∙ ap (map first_of) here; row_lists = lists_are ∙ ap (map rows_of_pair) here }
+    record {
+      first_rows = firsts_are ∙ ap (map first_of) here;
+      row_lists = lists_are ∙ ap (map rows_of_pair) here;
+      formed = rw (← here, ← high) formed;
+    }

@@ -1,5 +1,5 @@
--- Lists of rows, and folds over them.
-use Rattle.std.specs.Prelude.{ℕ, ◌≤◌, ◌<◌, List, length, map, All, Option, None}
+-- Folds over lists of rows.
+use Rattle.std.specs.Prelude.{ℕ, List, map, Option, None}
 use Rattle.gb_defs.specs.Slot.{Slot}
 use Rattle.gb_defs.specs.ColumnType.{ColumnType}
 use Rattle.gb_defs.specs.Column.{ColumnValue, fresh_column}
@@ -8,11 +8,6 @@ use Rattle.gb_defs.specs.Fault.{Fault, unfit_operation, unfit_or}
 use Rattle.gb_cols.specs.PlSmallStr.{name_of}
 use Rattle.gb_tool.specs.declared.request.Agg.{Agg}
 use Rattle.gb_tool.specs.Request.{method_of}
-
--- the rows are below n, and no more than n
-pub record AreRows (n : ℕ) (rows : List ℕ) : Type 0 where
-  pub within : All (λ row. row < n) rows
-  pub few : length rows ≤ n
 
 -- the fold of a column over a list of rows
 abbrev pub fold_in : Method → ColumnValue → List ℕ → Slot

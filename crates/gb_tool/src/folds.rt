@@ -5,7 +5,7 @@ ghost use Rattle.gb_defs.specs.Slot.{is_nil, slot_at};
 ghost use Rattle.gb_defs.specs.ColumnType.{text, uint32};
 ghost use Rattle.gb_defs.specs.Column.{content};
 ghost use Rattle.gb_defs.specs.Fold.{wrap, total, valid, picked, number_slot, sum_type, fold_of, Sum, Count};
-ghost use Rattle.gb_defs.specs.Groups.{HasRowNumbers};
+ghost use Rattle.gb_defs.specs.Groups.{AreMembers, HasRowNumbers};
 ghost use Rattle.gb_defs.specs.Answer.{aggregated, answer_name};
 ghost use Rattle.gb_defs.specs.Fault.{has_sum, InvalidOperation, OfSum};
 ghost use Rattle.gb_cols.specs.PolarsError.{Explains};
@@ -13,7 +13,7 @@ ghost use Rattle.gb_cols.specs.PlSmallStr.{name_of, IsNoMemory};
 ghost use Rattle.gb_cols.specs.Array.{number_slot_of};
 ghost use Rattle.gb_groups.specs.Groups.{lists_of};
 ghost use Rattle.gb_series.specs.Series.{value_of};
-ghost use Rattle.gb_tool.specs.Folds.{AreRows, agg_unfit, fold_column, fold_in, unfit_in};
+ghost use Rattle.gb_tool.specs.Folds.{agg_unfit, fold_column, fold_in, unfit_in};
 ghost use Rattle.gb_tool.specs.Request.{agg_of, method_of};
 
 use crate::request::{Agg, GroupByMethod};
@@ -33,7 +33,7 @@ pub fn aggregate(
     agg: &Agg,
     lists: &[IdxVec],
 ) -> PolarsResult<Series>
-    requires rows { All (AreRows (length (value_of column.now).slots)) (lists_of lists.now) }
+    requires rows { All (AreMembers (length (value_of column.now).slots)) (lists_of lists.now) }
     requires few { HasRowNumbers (length lists.now) }
     requires short { HasRowNumbers (length (value_of column.now).slots) }
     ensures fits { OnOk result (agg_unfit agg.now (value_of column.now) ≡ None) }
@@ -76,7 +76,7 @@ fn column_sums(
     asked: &PlSmallStr,
     lists: &[IdxVec],
 ) -> PolarsResult<Series>
-    requires rows { All (AreRows (length (value_of column.now).slots)) (lists_of lists.now) }
+    requires rows { All (AreMembers (length (value_of column.now).slots)) (lists_of lists.now) }
     requires few { HasRowNumbers (length lists.now) }
     ensures fits { OnOk result (has_sum (value_of column.now).dtype ≡ true) }
     ensures ok { IfOk result (λ s. value_of s
@@ -109,7 +109,7 @@ fn sums<T: PolarsNumericType>(
     column: &ChunkedArray<PrimitiveArray<T>>,
     lists: &[IdxVec],
 ) -> PolarsResult<ChunkedArray<PrimitiveArray<T>>>
-    requires rows { All (AreRows (length column.now.slots)) (lists_of lists.now) }
+    requires rows { All (AreMembers (length column.now.slots)) (lists_of lists.now) }
     requires few { HasRowNumbers (length lists.now) }
     ensures typed { column.now.dtype ≡ T.dtype }
     ensures ok { IfOk result (λ c. c ≡ fold_column (name_of name) T.dtype
@@ -125,7 +125,10 @@ fn sums<T: PolarsNumericType>(
 }
 
 // The sum at these rows.
-fn sum_at<T: PolarsNumericType>(column: &ChunkedArray<PrimitiveArray<T>>, rows: &[IdxSize]) -> T::Native
+fn sum_at<T: PolarsNumericType>(
+    column: &ChunkedArray<PrimitiveArray<T>>,
+    rows: &[IdxSize],
+) -> T::Native
     requires { All (λ row. row < length column.now.slots) rows.now }
     ensures { T.number result ≡ wrap T.dtype (total (valid (picked column.now.slots rows.now))) }
 {
@@ -155,7 +158,7 @@ fn column_counts(
     include_nulls: bool,
     lists: &[IdxVec],
 ) -> PolarsResult<UInt32Chunked>
-    requires rows { All (AreRows (length (value_of column.now).slots)) (lists_of lists.now) }
+    requires rows { All (AreMembers (length (value_of column.now).slots)) (lists_of lists.now) }
     requires few { HasRowNumbers (length lists.now) }
     requires short { HasRowNumbers (length (value_of column.now).slots) }
     ensures ok { IfOk result (λ c. c ≡ fold_column (name_of name) uint32
@@ -192,7 +195,7 @@ fn valid_counts(
     column: &Series,
     lists: &[IdxVec],
 ) -> PolarsResult<UInt32Chunked>
-    requires rows { All (AreRows (length (value_of column.now).slots)) (lists_of lists.now) }
+    requires rows { All (AreMembers (length (value_of column.now).slots)) (lists_of lists.now) }
     requires few { HasRowNumbers (length lists.now) }
     requires short { HasRowNumbers (length (value_of column.now).slots) }
     ensures ok { IfOk result (λ c. c ≡ fold_column (name_of name) uint32
@@ -214,7 +217,7 @@ fn valid_counts(
 
 // The number of valid slots at these rows.
 fn valid_at(column: &Series, rows: &[IdxSize]) -> u32
-    requires rows { AreRows (length (value_of column.now).slots) rows.now }
+    requires rows { AreMembers (length (value_of column.now).slots) rows.now }
     requires short { HasRowNumbers (length (value_of column.now).slots) }
     ensures { result ≡ length (valid (picked (value_of column.now).slots rows.now)) }
 {

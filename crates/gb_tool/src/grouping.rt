@@ -8,12 +8,11 @@ ghost use Rattle.gb_defs.specs.Answer.{aggregated};
 ghost use Rattle.gb_defs.specs.Outcome.{grouped};
 ghost use Rattle.gb_cols.specs.PolarsError.{Explains};
 ghost use Rattle.gb_defs.specs.Classes.{groups, rows_below, same_slot};
-ghost use Rattle.gb_defs.specs.Groups.{HasRowNumbers};
+ghost use Rattle.gb_defs.specs.Groups.{AreMembers, HasRowNumbers, IsWellFormed};
 ghost use Rattle.gb_cols.specs.PlSmallStr.{IsNoMemory, name_of};
 ghost use Rattle.gb_groups.specs.GroupsType.{groups_of};
 ghost use Rattle.gb_groups.specs.Groups.{lists_of};
 ghost use Rattle.gb_series.specs.Series.{value_of};
-ghost use Rattle.gb_tool.specs.Folds.{AreRows};
 ghost use Rattle.gb_tool.specs.Grouping.{answer_parts, unfit_cause};
 ghost use Rattle.gb_tool.specs.Request.{agg_of, aggs_of};
 ghost use Rattle.gb_tool.specs.Text.{contents_of};
@@ -68,7 +67,7 @@ fn group_by_key<R: Threads + Sync, G: Gate + Sync>(
     ensures err { IfErr result (λ e.
         Explains e (result_err (grouped frame.now (name_of by.now ∷ []) (aggs_of aggs.now)))) }
 {
-    check_height(frame)?;
+    check_height(frame.height())?;
     check_columns(frame, aggs)?;
     let groups = key_groups(rt, key, pool, gate)?;
     let groups = groups.unwrap_idx();
@@ -86,6 +85,8 @@ fn key_groups<R: Threads + Sync, G: Gate + Sync>(
     requires few { HasRowNumbers (length (value_of key.now).slots) }
     ensures ok { IfOk result (λ g. (groups_of g).pairs ≡ groups
         (same_slot (value_of key.now).slots) (rows_below (length (value_of key.now).slots))) }
+    ensures formed { IfOk result (λ g.
+        IsWellFormed (length (value_of key.now).slots) (groups_of g).pairs) }
     ensures err { IfErr result IsNoMemory }
 {
     let multithreaded = true;
@@ -93,13 +94,11 @@ fn key_groups<R: Threads + Sync, G: Gate + Sync>(
     group_tuples_gated(rt, key, multithreaded, sorted, pool, gate)
 }
 
-// That rows have numbers.
-fn check_height(frame: &DataFrame) -> PolarsResult<()>
-    ensures ok { OnOk result (HasRowNumbers (frame_height frame.now)) }
-    ensures frame { IsFrame frame.now }
-    ensures err { IfErr result (λ e. Explains e (rows_fault (frame_height frame.now))) }
+// That so many rows have numbers.
+fn check_height(height: usize) -> PolarsResult<()>
+    ensures ok { OnOk result (HasRowNumbers height) }
+    ensures err { IfErr result (λ e. Explains e (rows_fault height)) }
 {
-    let height = frame.height();
     if height > u32::MAX as usize {
         return Err(PolarsError::TooManyRows(height as u64));
     }
@@ -130,7 +129,7 @@ fn answer_columns(
     requires short { HasRowNumbers (frame_height frame.now) }
     requires found { missing_fault frame.now (aggs_of aggs.now) ≡ None }
     requires firsts { All (λ row. row < length (value_of key.now).slots) firsts.now }
-    requires rows { All (AreRows (frame_height frame.now)) (lists_of lists.now) }
+    requires rows { All (AreMembers (frame_height frame.now)) (lists_of lists.now) }
     requires few { HasRowNumbers (length lists.now) }
     ensures ok { IfOk result (λ columns. contents_of columns.items
         ≡ answer_parts frame.now (value_of key.now ∷ []) (aggs_of aggs.now)
@@ -156,7 +155,7 @@ fn found_aggregate(
     requires frame { IsFrame frame.now }
     requires short { HasRowNumbers (frame_height frame.now) }
     requires found { is_none (find_column frame.now (name_of agg.now.column)) ≡ false }
-    requires rows { All (AreRows (frame_height frame.now)) (lists_of lists.now) }
+    requires rows { All (AreMembers (frame_height frame.now)) (lists_of lists.now) }
     requires few { HasRowNumbers (length lists.now) }
     ensures ok { IfOk result (λ s. content (value_of s) ≡ aggregated (agg_of agg.now)
         (find_column frame.now (name_of agg.now.column)) (lists_of lists.now)) }

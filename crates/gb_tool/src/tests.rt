@@ -246,8 +246,14 @@ fn table_errors_print_their_lines(rt: HostRuntime) -> Result<(), Fail> {
     let rows = [
         (TableFault::NoHeader, "table: no header"),
         (TableFault::SameName(2), "table: column 2: name used before"),
-        (TableFault::Ragged(5, 1, 2), "table: row 5: 1 fields, 2 wanted"),
-        (TableFault::BadCell(1, 3), "table: row 1, column 3: bad cell"),
+        (
+            TableFault::Ragged(5, 1, 2),
+            "table: row 5: 1 fields, 2 wanted",
+        ),
+        (
+            TableFault::BadCell(1, 3),
+            "table: row 1, column 3: bad cell",
+        ),
     ];
     for (fault, line) in rows {
         let error = TableError::Fault(fault);

@@ -4,11 +4,12 @@ use Rattle.gb_defs.specs.Slot.{is_nil, slot_at}
 use Rattle.gb_defs.specs.Fold.{valid, picked}
 use Rattle.gb_defs.proofs.FoldLemmas.{picked_more, valid_push_null, valid_push_value}
 use Rattle.gb_series.specs.Series.{value_of}
+use Rattle.gb_paths.proofs.MemberLemmas.{few_members}
 use Rattle.gb_tool.proofs.folds.valid_at.Goals as goal
 use Rattle.gb_tool.proofs.folds.valid_at.Goals.{then-is_valid, else-is_valid}
 
 pub overflow_add-count : goal.overflow_add-count
-overflow_add-count c = omega (arith, c.loop-row.invariant.few, c.loop-row-test.true, c.requires.rows.few, c.requires.short)
+overflow_add-count c = omega (arith, c.loop-row.invariant.few, c.loop-row-test.true, few_members _ _ c.requires.rows, c.requires.short)
 
 pub loop-row-preserved : goal.loop-row-preserved
 loop-row-preserved c =

@@ -1,7 +1,8 @@
 use Rattle.std.proofs.Common.{◌≡◌, ◌∙◌, ap, sym, subst, length, ℕ, List, [], true, false, ◌==◌}
 use Rattle.gb_defs.specs.Fold.{Count, fold_picked, number_slot, valid, picked}
 use Rattle.gb_series.specs.Series.{value_of}
-use Rattle.gb_tool.specs.Folds.{AreRows, fold_in}
+use Rattle.gb_defs.specs.Groups.{AreMembers}
+use Rattle.gb_tool.specs.Folds.{fold_in}
 use Rattle.gb_tool.proofs.FoldingLemmas.{column_next, list_at, list_in}
 use Rattle.gb_tool.proofs.folds.valid_counts.Goals as goal
 use Rattle.gb_tool.proofs.folds.valid_counts.Goals.{then-is_empty, else-is_empty}
@@ -12,7 +13,7 @@ valid_at-requires-clause-rows c =
     let n = length (value_of c.args.column.now).slots in
     let at = list_at c.args.lists.now i c.rows-item.result c.loop-rows-test.true c.rows-item.is in
     let rows = c.requires.rows i [] (list_in c.args.lists.now i c.rows-item.result c.loop-rows-test.true c.rows-item.is) in
-    rw c.deref.ensures (subst (λ (r : List ℕ). AreRows n r) at rows)
+    rw c.deref.ensures (subst (λ (r : List ℕ). AreMembers n r) at rows)
 
 pub loop-rows-preserved : goal.loop-rows-preserved
 unfolding fold_picked

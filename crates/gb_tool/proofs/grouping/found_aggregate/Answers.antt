@@ -4,14 +4,14 @@ use Rattle.gb_cols.specs.PlSmallStr.{name_of}
 use Rattle.gb_groups.specs.Groups.{lists_of}
 use Rattle.gb_series.specs.Series.{value_of}
 use Rattle.gb_series.proofs.FrameLemmas.{found_long}
-use Rattle.gb_tool.specs.Folds.{AreRows}
+use Rattle.gb_defs.specs.Groups.{AreMembers}
 use Rattle.gb_tool.proofs.grouping.found_aggregate.Goals as goal
 
 pub aggregate-requires-clause-rows : goal.aggregate-requires-clause-rows
 aggregate-requires-clause-rows c =
     let frame = c.args.frame.now in
     let long = found_long (frame_height frame) frame (name_of c.args.agg.now.column) (value_of c.in_ok-column.column.now) c.requires.frame.aligned (rw (← c.as_str.ensures) c.in_ok-column.ensures.ok) in
-    subst (λ (n : ℕ). All (AreRows n) (lists_of c.args.lists.now)) (sym long) c.requires.rows
+    subst (λ (n : ℕ). All (AreMembers n) (lists_of c.args.lists.now)) (sym long) c.requires.rows
 
 pub aggregate-requires-clause-short : goal.aggregate-requires-clause-short
 aggregate-requires-clause-short c =
