@@ -80,15 +80,13 @@ fn pieces_run_side_by_side(rt: HostRuntime) -> Result<(), Fail> {
         let mut sink = MemSink::new(rt.alloc(), 4096, 4096, Vec::new(rt.alloc()))?;
         let gate = HoldingGate::new();
         let words = row.words;
+        let times = row.times;
         let status = status_through(&rt, rt.alloc(), words, 4096, &mut source, &mut sink, &gate)?;
         assert_eq!(rt; status.code(), 0);
         assert_eq!(rt; sink.bytes(), b"k:str,v_sum:i64\nb,4\na,6\n".as_slice());
         for piece in 0..3 {
-            assert_eq!(rt;
-                gate.entered[piece].load(Ordering::SeqCst),
-                row.times[piece]
-            );
-            assert_eq!(rt; gate.left[piece].load(Ordering::SeqCst), row.times[piece]);
+            assert_eq!(rt; gate.entered[piece].load(Ordering::SeqCst), times[piece]);
+            assert_eq!(rt; gate.left[piece].load(Ordering::SeqCst), times[piece]);
         }
         assert!(rt; gate.turns.load(Ordering::SeqCst) < MOST_TURNS);
     }
