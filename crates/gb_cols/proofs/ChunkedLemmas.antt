@@ -1,5 +1,5 @@
 -- The slots and the chunk lengths of a column whose last chunk stands apart.
-use Rattle.std.proofs.Common.{◌≡◌, ℕ, ◌+◌, ◌<◌, ◌≤◌, List, [], ◌∷◌, ◌++◌, length, get_or, take, drop, map, refl, sym, ◌∙◌, ap, arith, false, cond, subst}
+use Rattle.std.proofs.Common.{◌≡◌, ℕ, ◌+◌, ◌<◌, ◌≤◌, List, [], ◌∷◌, ◌++◌, length, get_or, take, drop, map, refl, sym, ◌∙◌, ap, arith, false, cond, subst, Option, Some, None, option_map}
 use Rattle.std.specs.List.{All, count_by, flat_map, sum}
 use Rattle.std.proofs.lemmas.List.Concat.{length-flat_map}
 use Rattle.std.proofs.lemmas.List.Elements.{All-append}
@@ -48,6 +48,14 @@ module _ {A : Type 0} (slots : A → List Slot) where
       ap (λ ss. record { name = name; dtype = dtype; slots = ss; chunks = all_lengths earlier new; sorted = NotSorted; all_used = false }) (slots_pushed earlier last new s e)
       ∙ ap (λ ns. record { name = name; dtype = dtype; slots = all_slots earlier last ++ s ∷ []; chunks = ns; sorted = NotSorted; all_used = false }) (lengths_pushed earlier last new s e)
 
+  -- the same for a slot that may be missing
+  pub view_taken : (name : List ℕ) (dtype : ColumnType) (sorted : SortedFlag) (earlier : List A) (last new : A) (v : Option Slot) → Some (slots new) ≡ option_map (λ s. slots last ++ s ∷ []) v →
+      ◌≡◌ {A = Option ColumnValue} (Some (record { name = name; dtype = dtype; slots = all_slots earlier new; chunks = all_lengths earlier new; sorted = NotSorted; all_used = false }))
+      (option_map (pushed (record { name = name; dtype = dtype; slots = all_slots earlier last; chunks = all_lengths earlier last; sorted = sorted; all_used = false })) v)
+  view_taken name dtype sorted earlier last new None e = cc
+  view_taken name dtype sorted earlier last new (Some s) e =
+      let more : slots new ≡ slots last ++ s ∷ [] = cc in ap (λ c. Some c) (view_pushed name dtype sorted earlier last new s more)
+
   -- a column of one chunk
   pub view_one : (name : List ℕ) (dtype : ColumnType) (last : A) (ss : List Slot) → slots last ≡ ss →
       ◌≡◌ {A = ColumnValue} (record { name = name; dtype = dtype; slots = all_slots [] last; chunks = all_lengths [] last; sorted = NotSorted; all_used = false }) (fresh_column name dtype ss)
@@ -63,12 +71,12 @@ module _ {A : Type 0} (slots : A → List Slot) where
   abbrev pub front_slots : List A → ℕ → List Slot
   front_slots earlier i = flat_map slots (take i earlier)
 
-  front_more : (earlier : List A) (a : A) (i : ℕ) → i < length earlier → a ≡ get_or earlier i a → front_slots earlier (i + 1) ≡ front_slots earlier i ++ slots a
+  pub front_more : (earlier : List A) (a : A) (i : ℕ) → i < length earlier → a ≡ get_or earlier i a → front_slots earlier (i + 1) ≡ front_slots earlier i ++ slots a
   front_more earlier a i lt read =
       ap (flat_map slots) (take_more earlier i a lt) ∙ flat_map-append slots (take i earlier) (get_or earlier i a ∷ [])
       ∙ ap (λ b. front_slots earlier i ++ (slots b ++ [])) (sym read) ∙ ap (λ ss. front_slots earlier i ++ ss) (append-nil (slots a))
 
-  front_all : (earlier : List A) (last : A) (i : ℕ) → length earlier ≤ i → front_slots earlier i ++ slots last ≡ all_slots earlier last
+  pub front_all : (earlier : List A) (last : A) (i : ℕ) → length earlier ≤ i → front_slots earlier i ++ slots last ≡ all_slots earlier last
   front_all earlier last i le = ap (λ es. flat_map slots es ++ slots last) (take_all i earlier le) ∙ sym (all_slots_is earlier last)
 
   -- ---- lengths

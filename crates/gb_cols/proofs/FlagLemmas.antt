@@ -1,5 +1,5 @@
 -- Slots under their flags.
-use Rattle.std.proofs.Common.{◌≡◌, inl, inr, ℕ, zero, suc, ◌+◌, ◌≤◌, Bool, true, false, List, [], ◌∷◌, ◌++◌, length, refl, sym, ◌∙◌, ap, cond, arith, get_or, replicate, not}
+use Rattle.std.proofs.Common.{◌≡◌, inl, inr, ℕ, zero, suc, ◌+◌, ◌<◌, ◌≤◌, Bool, true, false, List, [], ◌∷◌, ◌++◌, length, refl, sym, ◌∙◌, ap, cond, arith, get_or, replicate, not, Option, Some, None, option_map}
 use Rattle.std.proofs.lemmas.List.{length-append, length-replicate}
 use Rattle.std.specs.List.{AllByRecursion, count_by}
 use Rattle.std.proofs.lemmas.List.Sums.{sum_by-append}
@@ -102,3 +102,55 @@ flagged_nulls (s ∷ slots) (false ∷ flags) none le =
 pub flags_few : (flags count : ℕ) → FitsFlags flags count → flags ≤ count
 flags_few flags count (inl none) = omega (arith, none)
 flags_few flags count (inr each) = omega (arith, each)
+
+-- ---- flags for all
+
+pub flagged_filled : (slots : List Slot) (flags : List Bool) (count : ℕ) → flagged_slots slots (filled count flags) ≡ flagged_slots slots flags
+flagged_filled slots [] count = flagged_true slots count ∙ sym (flagged_none slots)
+flagged_filled slots (f ∷ flags) count = refl
+
+-- ---- values, none of them null
+
+pub no_nil_at : (slots : List Slot) (i : ℕ) → AllByRecursion (λ slot. is_nil slot ≡ false) slots → i < length slots → is_nil (slot_at slots i) ≡ false
+no_nil_at [] i none lt = absurd (omega arith)
+no_nil_at (s ∷ slots) zero none lt = none.0
+no_nil_at (s ∷ slots) (suc i) none lt = no_nil_at slots i none.1 (omega arith)
+
+pub flagged_valid_at : (slots : List Slot) (flags : List Bool) (i : ℕ) → AllByRecursion (λ slot. is_nil slot ≡ false) slots → i < length slots →
+    get_or flags i true ≡ not (is_nil (slot_at (flagged_slots slots flags) i))
+flagged_valid_at slots flags i none lt =
+    flag_tells (get_or flags i true) (slot_at slots i) (no_nil_at slots i none lt) ∙ ap (λ s. not (is_nil s)) (sym (flagged_at slots flags i))
+
+-- a slot whose flag is true, and one whose flag is false
+pub valid_at : (slots : List Slot) (flags : List Bool) (i : ℕ) → get_or flags i true ≡ true → slot_at slots i ≡ slot_at (flagged_slots slots flags) i
+valid_at slots flags i valid = ap (λ b. cond b (slot_at slots i) Nil) (sym valid) ∙ sym (flagged_at slots flags i)
+
+pub null_at : (slots : List Slot) (flags : List Bool) (i : ℕ) → get_or flags i true ≡ false → Nil ≡ slot_at (flagged_slots slots flags) i
+null_at slots flags i null = ap (λ b. cond b (slot_at slots i) Nil) (sym null) ∙ sym (flagged_at slots flags i)
+
+no_null : (b : Bool) → not b ≡ true → b ≡ false
+no_null true e = cc
+no_null false e = refl
+
+pub valid_no_nil : (slots : List Slot) (flags : List Bool) (i : ℕ) → AllByRecursion (λ slot. is_nil slot ≡ false) slots → i < length slots → get_or flags i true ≡ true →
+    is_nil (slot_at (flagged_slots slots flags) i) ≡ false
+valid_no_nil slots flags i none lt valid = no_null (is_nil (slot_at (flagged_slots slots flags) i)) (sym (flagged_valid_at slots flags i none lt) ∙ valid)
+
+shown : (flag : Bool) (slot : Slot) → is_nil (cond flag slot Nil) ≡ false → slot ≡ cond flag slot Nil
+shown true slot e = refl
+shown false slot e = cc
+
+-- a slot that is no null has no flag that hides it
+pub shown_at : (slots : List Slot) (flags : List Bool) (i : ℕ) → is_nil (slot_at (flagged_slots slots flags) i) ≡ false → slot_at slots i ≡ slot_at (flagged_slots slots flags) i
+shown_at slots flags i e =
+    shown (get_or flags i true) (slot_at slots i) (ap is_nil (sym (flagged_at slots flags i)) ∙ e) ∙ sym (flagged_at slots flags i)
+
+-- ---- one value more, with its flag
+
+module _ (slots : List Slot) (flags : List Bool) (new view : List Slot) (more : List Bool) (fits : FitsFlags (length flags) (length slots)) (kept : more ≡ valid_pushed flags) (is : flagged_slots slots flags ≡ view) where
+  pub valid_more : (slot : Slot) → new ≡ slots ++ slot ∷ [] → flagged_slots new more ≡ view ++ slot ∷ []
+  valid_more slot e = rw (e, kept, ← is) (flagged_valid slots flags slot fits)
+
+  pub taken_more : (v : Option Slot) → Some new ≡ option_map (λ slot. slots ++ slot ∷ []) v → Some (flagged_slots new more) ≡ option_map (λ slot. view ++ slot ∷ []) v
+  taken_more None e = cc
+  taken_more (Some slot) e = let grown : new ≡ slots ++ slot ∷ [] = cc in ap (λ ss. Some ss) (valid_more slot grown)

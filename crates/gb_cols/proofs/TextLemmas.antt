@@ -1,23 +1,24 @@
--- The slots of a storage of texts: the pieces that its places cut from its bytes, under their flags.
-use Rattle.std.proofs.Common.{◌≡◌, ◌≤◌, ◌<◌, ◌-◌, ℕ, zero, suc, Bool, true, false, List, [], ◌∷◌, ◌++◌, take, drop, length, map, refl, sym, ◌∙◌, ap, cond, arith, get_or, not, subst}
+-- Texts in a row: the pieces that places cut from bytes.
+use Rattle.std.proofs.Common.{◌≡◌, ◌≤◌, ◌<◌, ◌-◌, ℕ, zero, suc, List, [], ◌∷◌, ◌++◌, take, drop, length, map, refl, sym, ◌∙◌, ap, arith, get_or, subst}
 use Rattle.std.specs.Prelude.{IsUtf8}
-use Rattle.std.specs.List.{All, AllByRecursion, count_by}
+use Rattle.std.specs.List.{All, AllByRecursion}
 use Rattle.std.proofs.lemmas.List.Elements.{All-from_recursion}
 use Rattle.gb_defs.specs.ColumnType.{Fits, text}
-use Rattle.std.proofs.lemmas.List.{append-nil, drop-append-le, get_or-map, length-append, length-drop, length-map, map-append, take-append-le, take_all}
-use Rattle.gb_defs.specs.Slot.{Slot, Nil, Bytes, is_nil, slot_at}
-use Rattle.gb_cols.specs.Array.{FitsFlags, IsUtf8Array, Rises, filled, pieces_from, start_of, utf8_slots, valid_pushed}
-use Rattle.gb_cols.proofs.FlagLemmas.{fits_null, fits_valid, flagged_all, flagged_at, flagged_length, flagged_null, flagged_nulls, flagged_valid, flags_few, flag_tells}
+use Rattle.std.proofs.lemmas.List.{drop-append-le, length-append, length-drop, take-append-le, take_all}
+use Rattle.gb_defs.specs.Slot.{Slot, Bytes, slot_at}
+use Rattle.gb_cols.specs.Array.{AreTexts, Rises, pieces_from, start_of}
 
 abbrev slot_of : List ℕ → Slot
 slot_of piece = Bytes piece
 
-pieces_length : (start : ℕ) (ends bytes : List ℕ) → length (pieces_from start ends bytes) ≡ length ends
+pub pieces_length : (start : ℕ) (ends bytes : List ℕ) → length (pieces_from start ends bytes) ≡ length ends
 pieces_length start [] bytes = refl
 pieces_length start (end ∷ ends) bytes = ap suc (pieces_length end ends bytes)
 
-pub texts_length : (bytes ends : List ℕ) (flags : List Bool) → length (utf8_slots bytes ends flags) ≡ length ends
-texts_length bytes ends flags = flagged_length (map slot_of (pieces_from 0 ends bytes)) flags ∙ length-map (pieces_from 0 ends bytes) slot_of ∙ pieces_length 0 ends bytes
+pub text_slot_at : (texts : List (List ℕ)) (i : ℕ) → i < length texts → Bytes (get_or texts i []) ≡ slot_at (map slot_of texts) i
+text_slot_at [] i lt = absurd (omega arith)
+text_slot_at (text ∷ texts) zero lt = refl
+text_slot_at (text ∷ texts) (suc i) lt = text_slot_at texts i (omega arith)
 
 -- ---- the piece at a place
 
@@ -55,38 +56,21 @@ all_push : {A : Type 0} (P : A → Type 0) (xs : List A) (x : A) → AllByRecurs
 all_push P [] x h p = (p, tt)
 all_push P (y ∷ ys) x h p = (h.0, all_push P ys x h.1 p)
 
-text_no_nil : (pieces : List (List ℕ)) (i : ℕ) → i < length pieces → is_nil (slot_at (map slot_of pieces) i) ≡ false
-text_no_nil [] i lt = absurd (omega arith)
-text_no_nil (piece ∷ pieces) zero lt = refl
-text_no_nil (piece ∷ pieces) (suc i) lt = text_no_nil pieces i (omega arith)
+module _ {bytes ends : List ℕ} (are : AreTexts bytes ends) (i : ℕ) (lt : i < length ends) where
+  pub text_low : start_of 0 ends i ≤ get_or ends i 0
+  text_low = piece_low 0 ends (length bytes) i are.rises lt
 
-pub no_text_at : (bytes ends : List ℕ) (flags : List Bool) (i : ℕ) → get_or flags i true ≡ false → Nil ≡ slot_at (utf8_slots bytes ends flags) i
-no_text_at bytes ends flags i null =
-    ap (λ b. cond b (slot_at (map slot_of (pieces_from 0 ends bytes)) i) Nil) (sym null) ∙ sym (flagged_at (map slot_of (pieces_from 0 ends bytes)) flags i)
+  pub text_high : get_or ends i 0 ≤ length bytes
+  text_high = piece_high 0 ends (length bytes) i are.rises lt
 
-module _ {bytes ends : List ℕ} {flags : List Bool} (is : IsUtf8Array bytes ends flags) where
-  module _ (i : ℕ) (lt : i < length ends) where
-    pub text_low : start_of 0 ends i ≤ get_or ends i 0
-    text_low = piece_low 0 ends (length bytes) i is.rises lt
+  in_pieces : i < length (pieces_from 0 ends bytes)
+  in_pieces = omega (arith, lt, pieces_length 0 ends bytes)
 
-    pub text_high : get_or ends i 0 ≤ length bytes
-    text_high = piece_high 0 ends (length bytes) i is.rises lt
+  pub text_at : take (get_or ends i 0 - start_of 0 ends i) (drop (start_of 0 ends i) bytes) ≡ get_or (pieces_from 0 ends bytes) i []
+  text_at = sym (piece_at 0 ends bytes i lt)
 
-    in_pieces : i < length (pieces_from 0 ends bytes)
-    in_pieces = omega (arith, lt, pieces_length 0 ends bytes)
-
-    pub text_is : IsUtf8 (take (get_or ends i 0 - start_of 0 ends i) (drop (start_of 0 ends i) bytes))
-    text_is = subst (λ (piece : List ℕ). IsUtf8 piece) (piece_at 0 ends bytes i lt) (all_at IsUtf8 (pieces_from 0 ends bytes) i [] is.texts in_pieces)
-
-    pub text_valid : get_or flags i true ≡ not (is_nil (slot_at (utf8_slots bytes ends flags) i))
-    text_valid =
-        flag_tells (get_or flags i true) (slot_at (map slot_of (pieces_from 0 ends bytes)) i) (text_no_nil (pieces_from 0 ends bytes) i in_pieces)
-        ∙ ap (λ s. not (is_nil s)) (sym (flagged_at (map slot_of (pieces_from 0 ends bytes)) flags i))
-
-    pub text_at : get_or flags i true ≡ true → Bytes (take (get_or ends i 0 - start_of 0 ends i) (drop (start_of 0 ends i) bytes)) ≡ slot_at (utf8_slots bytes ends flags) i
-    text_at valid =
-        ap slot_of (sym (piece_at 0 ends bytes i lt)) ∙ sym (get_or-map slot_of (pieces_from 0 ends bytes) i [] Nil in_pieces)
-        ∙ ap (λ b. cond b (slot_at (map slot_of (pieces_from 0 ends bytes)) i) Nil) (sym valid) ∙ sym (flagged_at (map slot_of (pieces_from 0 ends bytes)) flags i)
+  pub text_is : IsUtf8 (take (get_or ends i 0 - start_of 0 ends i) (drop (start_of 0 ends i) bytes))
+  text_is = subst (λ (piece : List ℕ). IsUtf8 piece) (piece_at 0 ends bytes i lt) (all_at IsUtf8 (pieces_from 0 ends bytes) i [] are.texts in_pieces)
 
 -- ---- one more
 
@@ -114,57 +98,19 @@ pieces_push start (end ∷ ends) bytes more h =
     ap (λ piece. piece ∷ pieces_from end (ends ++ length (bytes ++ more) ∷ []) (bytes ++ more)) (piece_more start end bytes more h.0 (rises_first end ends (length bytes) h.1))
     ∙ ap (λ pieces. take (end - start) (drop start bytes) ∷ pieces) (pieces_push end ends bytes more h.1)
 
-module _ {bytes ends : List ℕ} {flags : List Bool} (is : IsUtf8Array bytes ends flags) where
-  many_pieces : length ends ≡ length (map slot_of (pieces_from 0 ends bytes))
-  many_pieces = sym (length-map (pieces_from 0 ends bytes) slot_of ∙ pieces_length 0 ends bytes)
+module _ {bytes ends : List ℕ} (are : AreTexts bytes ends) where
+  pub text_pushed : (more : List ℕ) → pieces_from 0 (ends ++ length (bytes ++ more) ∷ []) (bytes ++ more) ≡ pieces_from 0 ends bytes ++ more ∷ []
+  text_pushed more = pieces_push 0 ends bytes more are.rises
 
-  fits_slots : FitsFlags (length flags) (length (map slot_of (pieces_from 0 ends bytes)))
-  fits_slots = subst (λ (n : ℕ). FitsFlags (length flags) n) many_pieces is.flagged
-
-  slots_push : (more : List ℕ) → map slot_of (pieces_from 0 (ends ++ length (bytes ++ more) ∷ []) (bytes ++ more)) ≡ map slot_of (pieces_from 0 ends bytes) ++ Bytes more ∷ []
-  slots_push more = ap (map slot_of) (pieces_push 0 ends bytes more is.rises) ∙ map-append slot_of (pieces_from 0 ends bytes) (more ∷ [])
-
-  pub text_pushed : (more : List ℕ) → utf8_slots (bytes ++ more) (ends ++ length (bytes ++ more) ∷ []) (valid_pushed flags) ≡ utf8_slots bytes ends flags ++ Bytes more ∷ []
-  text_pushed more = rw (slots_push more) (flagged_valid (map slot_of (pieces_from 0 ends bytes)) flags (Bytes more) fits_slots)
-
-  pub text_pushed_is : (more : List ℕ) → IsUtf8 more → IsUtf8Array (bytes ++ more) (ends ++ length (bytes ++ more) ∷ []) (valid_pushed flags)
-  text_pushed_is more text = record {
-    rises = rises_push 0 ends (length bytes) (length (bytes ++ more)) is.rises (omega (arith, length-append bytes more));
-    texts = rw (pieces_push 0 ends bytes more is.rises) (all_push IsUtf8 (pieces_from 0 ends bytes) more is.texts text);
-    flagged = rw (length-append ends (length (bytes ++ more) ∷ [])) (fits_valid flags (length ends) is.flagged);
+  pub text_pushed_are : (more : List ℕ) → IsUtf8 more → AreTexts (bytes ++ more) (ends ++ length (bytes ++ more) ∷ [])
+  text_pushed_are more text = record {
+    rises = rises_push 0 ends (length bytes) (length (bytes ++ more)) are.rises (omega (arith, length-append bytes more));
+    texts = rw (text_pushed more) (all_push IsUtf8 (pieces_from 0 ends bytes) more are.texts text);
   }
-
-  no_pieces_push : pieces_from 0 (ends ++ length bytes ∷ []) bytes ≡ pieces_from 0 ends bytes ++ [] ∷ []
-  no_pieces_push = ap (λ bs. pieces_from 0 (ends ++ length bs ∷ []) bs) (sym (append-nil bytes)) ∙ pieces_push 0 ends bytes [] is.rises
-
-  pub no_text_pushed : (count : ℕ) → count ≡ length ends → utf8_slots bytes (ends ++ length bytes ∷ []) (filled count flags ++ false ∷ []) ≡ utf8_slots bytes ends flags ++ Nil ∷ []
-  no_text_pushed count long =
-      rw (ap (map slot_of) no_pieces_push ∙ map-append slot_of (pieces_from 0 ends bytes) ([] ∷ []))
-      (flagged_null (map slot_of (pieces_from 0 ends bytes)) flags (Bytes []) count (long ∙ many_pieces) fits_slots)
-
-  pub no_text_pushed_is : (count : ℕ) → count ≡ length ends → IsUtf8Array bytes (ends ++ length bytes ∷ []) (filled count flags ++ false ∷ [])
-  no_text_pushed_is count long = record {
-    rises = rises_push 0 ends (length bytes) (length bytes) is.rises (omega arith);
-    texts = rw no_pieces_push (all_push IsUtf8 (pieces_from 0 ends bytes) [] is.texts ([], (refl, refl)));
-    flagged = rw (length-append ends (length bytes ∷ []), long) (fits_null flags (length ends) is.flagged);
-  }
-
-  texts_no_nil : (pieces : List (List ℕ)) → AllByRecursion (λ slot. is_nil slot ≡ false) (map slot_of pieces)
-  texts_no_nil [] = tt
-  texts_no_nil (piece ∷ pieces) = (refl, texts_no_nil pieces)
-
-  pub text_nulls : count_by not flags ≡ count_by is_nil (utf8_slots bytes ends flags)
-  text_nulls =
-      flagged_nulls (map slot_of (pieces_from 0 ends bytes)) flags (texts_no_nil (pieces_from 0 ends bytes))
-      (flags_few (length flags) (length (map slot_of (pieces_from 0 ends bytes))) fits_slots)
-
-  -- ---- each fits the type
 
   pieces_fit : (pieces : List (List ℕ)) → AllByRecursion IsUtf8 pieces → AllByRecursion (Fits text) (map slot_of pieces)
   pieces_fit [] all = tt
   pieces_fit (piece ∷ pieces) all = (all.0, pieces_fit pieces all.1)
 
-  pub texts_fit : All (Fits text) (utf8_slots bytes ends flags)
-  texts_fit =
-      All-from_recursion (Fits text) (utf8_slots bytes ends flags)
-      (flagged_all (Fits text) (map slot_of (pieces_from 0 ends bytes)) flags tt (pieces_fit (pieces_from 0 ends bytes) is.texts))
+  pub texts_fit : All (Fits text) (map slot_of (pieces_from 0 ends bytes))
+  texts_fit = All-from_recursion (Fits text) (map slot_of (pieces_from 0 ends bytes)) (pieces_fit (pieces_from 0 ends bytes) are.texts)

@@ -1,8 +1,10 @@
 -- The slots of the storages.
-use Rattle.std.specs.Prelude.{◌≡◌, ◌⊎◌, ◌≤◌, ℕ, zero, suc, ◌-◌, ℤ, List, [], ◌∷◌, map, take, drop, length, replicate, get_or, ◌++◌, Bool, true, if◌then◌else◌, Option, None, Some, IsUtf8}
-use Rattle.std.specs.List.{All, AllByRecursion}
+use Rattle.std.specs.Prelude.{◌≡◌, ◌⊎◌, ◌≤◌, ◌<◌, ℕ, zero, suc, ◌-◌, ℤ, List, [], ◌∷◌, take, drop, length, replicate, get_or, ◌++◌, Bool, true, if◌then◌else◌, Option, None, Some, option_map, IsUtf8, Vec, vec_len, vec_capacity}
+use Rattle.std.specs.Global.{Global}
+use Rattle.std.specs.List.{AllByRecursion}
 use Rattle.std.specs.Borrow.{Bor}
-use Rattle.gb_defs.specs.ColumnType.{ColumnType, Fits}
+use Rattle.gb_defs.specs.Cell.{value_of_field}
+use Rattle.gb_defs.specs.ColumnType.{ColumnType}
 use Rattle.gb_defs.specs.Slot.{Slot, Nil, Num, Bytes}
 
 -- values with a flag each, null where it is false
@@ -25,15 +27,6 @@ filled count (flag ∷ flags) = flag ∷ flags
 abbrev pub FitsFlags : ℕ → ℕ → Type 0
 FitsFlags flags values = (flags ≡ 0) ⊎ (flags ≡ values)
 
--- numbers, of which those with a flag that is false are null
-abbrev pub primitive_slots : {N : Type 0} → (N → ℤ) → List N → List Bool → List Slot
-primitive_slots number values flags = flagged_slots (map (λ n. Num (number n)) values) flags
-
--- the flags fit the values, and the slots fit the type
-pub record IsPrimitiveArray {N : Type 0} (number : N → ℤ) (t : ColumnType) (values : List N) (flags : List Bool) : Type 0 where
-  pub flagged : FitsFlags (length flags) (length values)
-  pub fitting : All (Fits t) (primitive_slots number values flags)
-
 -- the slot of a number that may be missing
 abbrev pub number_slot_of : {N : Type 0} → (N → ℤ) → Option N → Slot
 number_slot_of number None = Nil
@@ -49,22 +42,34 @@ abbrev pub start_of : ℕ → List ℕ → ℕ → ℕ
 start_of start ends zero = start
 start_of start ends (suc i) = get_or ends i 0
 
--- texts that end at these places, of which those with a flag that is false are null
-abbrev pub utf8_slots : List ℕ → List ℕ → List Bool → List Slot
-utf8_slots bytes ends flags = flagged_slots (map (λ piece. Bytes piece) (pieces_from 0 ends bytes)) flags
-
 -- the places rise from a start to an end
 abbrev pub Rises : ℕ → List ℕ → ℕ → Type 0
 Rises start [] last = start ≡ last
 Rises start (end ∷ ends) last = (start ≤ end) × Rises end ends last
 
--- the places cut all of the bytes into texts, and the flags fit
-pub record IsUtf8Array (bytes ends : List ℕ) (flags : List Bool) : Type 0 where
+-- the places cut all of the bytes into texts
+pub record AreTexts (bytes ends : List ℕ) : Type 0 where
   pub rises : Rises 0 ends (length bytes)
   pub texts : AllByRecursion IsUtf8 (pieces_from 0 ends bytes)
-  pub flagged : FitsFlags (length flags) (length ends)
 
 -- the slot of a text that may be missing
 abbrev pub text_slot : Option (Bor (List ℕ)) → Slot
 text_slot None = Nil
 text_slot (Some text) = Bytes text.now
+
+-- one slot more at the end, whatever it is
+pub record HasOneMore (before after : List Slot) : Type 0 where
+  pub slot : Slot
+  pub more : after ≡ before ++ slot ∷ []
+
+-- what was taken, where it was
+abbrev pub if_taken : {A : Type 0} → Bool → A → Option A
+if_taken took a = if took then Some a else None
+
+-- whether a field reads as a value of the type, and if so its slot stands at the end
+abbrev pub TakesField : ColumnType → List Slot → List Slot → List ℕ → Bool → Type 0
+TakesField t before after field took = if_taken took after ≡ option_map (λ slot. before ++ slot ∷ []) (value_of_field t field)
+
+-- where there are flags, there is room for one more
+abbrev pub HasRoomForValid : Vec Bool Global → Type 0
+HasRoomForValid flags = (vec_len flags ≡ 0) ⊎ (vec_len flags < vec_capacity flags)

@@ -1,8 +1,11 @@
 -- The column that chunks make, and what a push and an append do to it.
-use Rattle.std.specs.Prelude.{ℕ, ◌+◌, ◌<◌, ◌^◌, List, [], ◌∷◌, ◌++◌, map, length, false}
+use Rattle.std.specs.Prelude.{◌≡◌, ℕ, ◌+◌, ◌<◌, ◌^◌, Bool, List, [], ◌∷◌, ◌++◌, map, length, false, Option, option_map}
 use Rattle.std.specs.List.{flat_map}
-use Rattle.gb_defs.specs.Slot.{Slot}
+use Rattle.gb_defs.specs.Cell.{cell_slot}
+use Rattle.gb_defs.specs.CellText.{cell_text}
+use Rattle.gb_defs.specs.Slot.{Slot, slot_at}
 use Rattle.gb_defs.specs.ColumnType.{ColumnType}
+use Rattle.gb_cols.specs.Array.{if_taken}
 use Rattle.gb_defs.specs.Column.{ColumnValue, IsFlagTrue, NotSorted, SortedFlag}
 
 -- the column of these chunks
@@ -28,3 +31,19 @@ pushed c slot = record { name = c.name; dtype = c.dtype; slots = c.slots ++ slot
 -- the column with another's slots and chunks behind its own, and no flag
 abbrev pub appended : ColumnValue → ColumnValue → ColumnValue
 appended c other = record { name = c.name; dtype = c.dtype; slots = c.slots ++ other.slots; chunks = c.chunks ++ other.chunks; sorted = NotSorted; all_used = false }
+
+-- there is room for one slot more
+abbrev pub HasRoom : ColumnValue → Type 0
+HasRoom c = length c.slots + 1 < 2 ^ 63
+
+-- the column with the slot of a cell at its end
+abbrev pub column_with : List ℕ → ColumnValue → List ℕ → Option ColumnValue
+column_with null_word c cell = option_map (pushed c) (cell_slot null_word c.dtype cell)
+
+-- whether the cell reads, and if so the column has its slot at the end
+abbrev pub TakesCell : List ℕ → ColumnValue → ColumnValue → List ℕ → Bool → Type 0
+TakesCell null_word old new cell took = if_taken took new ≡ column_with null_word old cell
+
+-- the cell of a column at a row
+abbrev pub cell_of : List ℕ → ColumnValue → ℕ → List ℕ
+cell_of null_word c row = cell_text null_word c.dtype (slot_at c.slots row)

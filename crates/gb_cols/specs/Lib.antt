@@ -4,8 +4,10 @@ pub mod DataType
 pub mod Device
 pub mod ErrorText
 pub mod FitsPool
+pub mod Keys
 pub mod Memory
 pub mod Native
+pub mod NoNil
 pub mod NullableIdx
 pub mod PlSmallStr
 pub mod PolarsError

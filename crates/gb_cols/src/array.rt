@@ -1,9 +1,13 @@
 //! What each storage of columns can do.
 
-ghost use Rattle.std.specs.Prelude.{◌≡◌, ℕ, ◌++◌, ◌∷◌, ◌<◌, ◌^◌, [], List, not, length, All, IfOk, OnOk, OnErr};
+ghost use Rattle.std.specs.Prelude.{◌≡◌, ℕ, ◌++◌, ◌∷◌, ◌<◌, ◌^◌, [], List, not, length, true, All, IfOk, OnOk, OnErr};
 ghost use Rattle.std.specs.List.{count_by};
+ghost use Rattle.std.specs.Bool.{OnFalse};
+ghost use Rattle.std.specs.Str.{IsUtf8};
+ghost use Rattle.gb_defs.specs.CellText.{cell_text};
 ghost use Rattle.gb_defs.specs.Slot.{Slot, Nil, is_nil, slot_at};
 ghost use Rattle.gb_defs.specs.ColumnType.{ColumnType, Fits};
+ghost use Rattle.gb_cols.specs.Array.{TakesField};
 ghost use Rattle.gb_cols.specs.DataType.{type_of};
 
 use crate::data_type::DataType;
@@ -53,6 +57,20 @@ pub trait Array: Drop {
         ensures ok { OnOk result
             (slots self.new ≡ slots self.old ++ slot_at (slots other.now) i ∷ []) }
         ensures err { OnErr result (slots self.new ≡ slots self.old) };
+
+    /// The slot that a table's cell reads as at the end, and whether it reads. A cell that is known to be
+    /// a text is not looked at again; the null word is for the caller to meet.
+    fn push_cell(&mut self, cell: &[u8], is_text: bool) -> Result<bool, AllocError>
+        requires { is_text ≡ true → IsUtf8 cell.now }
+        ensures ok { IfOk result (TakesField dtype (slots self.old) (slots self.new) cell.now) }
+        ensures refused { IfOk result (λ took. OnFalse took (slots self.new ≡ slots self.old)) }
+        ensures err { OnErr result (slots self.new ≡ slots self.old) };
+
+    /// The text of the slot at a place, behind what is there.
+    fn write_cell(&self, i: usize, null_word: &str, to: &mut Vec<u8>) -> Result<(), AllocError>
+        requires { i < length (slots self.now) }
+        ensures { let text = cell_text null_word.now dtype (slot_at (slots self.now) i) in
+            OnOk result (to.new.items ≡ to.old.items ++ text) };
 
     /// The same slots.
     fn try_clone(&self) -> Result<Self, AllocError>

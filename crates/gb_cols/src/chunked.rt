@@ -1,6 +1,8 @@
 //! Named columns of any storage.
 
-ghost use Rattle.std.specs.Prelude.{◌≡◌, ◌==◌, ◌+◌, ◌<◌, ◌^◌, [], length, sum, IfOk, IfErr, OnOk, OnErr, All};
+ghost use Rattle.std.specs.Prelude.{◌≡◌, ◌+◌, ◌<◌, ◌^◌, [], true, length, option_map, IfOk, IfErr, OnOk, OnErr};
+ghost use Rattle.std.specs.Bool.{OnFalse};
+ghost use Rattle.std.specs.Str.{IsUtf8};
 ghost use Rattle.gb_defs.specs.Slot.{Nil, slot_at};
 
 mod numbers;
@@ -10,12 +12,11 @@ use crate::array::Array;
 use crate::data_type::DataType;
 use crate::error::{PolarsError, PolarsResult};
 use crate::nullable_idx::IdxSize;
-use crate::numeric::{Int64Type, PolarsNumericType, UInt32Type};
-use crate::primitive::PrimitiveArray;
+use crate::series_trait::SeriesTrait;
 use crate::small_str::PlSmallStr;
 use crate::sorted::IsSorted;
 use crate::utf8::Utf8Array;
-use std::alloc::Global;
+use std::alloc::{AllocError, Global};
 use std::marker::Model;
 use std::mem;
 
@@ -28,9 +29,7 @@ pub struct ChunkedArray<A: Array> {
     sorted: IsSorted,
 }
 
-pub type Int64Chunked = ChunkedArray<PrimitiveArray<Int64Type>>;
-
-pub type UInt32Chunked = ChunkedArray<PrimitiveArray<UInt32Type>>;
+pub use crate::numeric::{Int64Chunked, UInt32Chunked};
 
 pub type IdxCa = UInt32Chunked;
 
@@ -54,15 +53,110 @@ impl<A: Array> Model for ChunkedArray<A> {
         (flag_of c.sorted) (c.earlier.items ++ c.last ∷ [])) };
 }
 
+impl<A: Array> SeriesTrait for ChunkedArray<A> {
+    ghost use Rattle.std.specs.Prelude.{◌≡◌};
+    ghost use Rattle.gb_cols.specs.PlSmallStr.{name_of};
+
+    ghost value = { λ c. c };
+
+    fn name(&self) -> &PlSmallStr
+        ensures name { name_of result.now ≡ self.now.name }
+        ensures typed { self.now.dtype ≡ A.dtype }
+    {
+        &self.name
+    }
+
+    fn allocator(&self) -> Global
+        ensures typed { self.now.dtype ≡ A.dtype }
+    {
+        *self.earlier.allocator()
+    }
+
+    fn rename(&mut self, name: PlSmallStr) {
+        self.name = name;
+    }
+
+    fn dtype(&self) -> PolarsResult<DataType> {
+        // The use of a field brings in the type's invariant.
+        let _ = &self.name;
+        Ok(A::data_type())
+    }
+
+    fn len(&self) -> usize {
+        let mut total = 0;
+        for chunk in &self.earlier {
+            total += chunk.len();
+        }
+        total + self.last.len()
+    }
+
+    fn is_empty(&self) -> bool {
+        self.len() == 0
+    }
+
+    fn null_count(&self) -> usize {
+        let mut total = 0;
+        for chunk in &self.earlier {
+            total += chunk.null_count();
+        }
+        total + self.last.null_count()
+    }
+
+    fn is_valid(&self, row: usize) -> bool {
+        let (chunk, place) = self.locate(row);
+        chunk.is_valid(place)
+    }
+
+    fn is_sorted_flag(&self) -> IsSorted {
+        self.sorted
+    }
+
+    fn push_null(&mut self) -> PolarsResult<()> {
+        self.put_null()?;
+        Ok(())
+    }
+
+    #[inline(always)]
+    fn push_cell(
+        &mut self,
+        cell: &[u8],
+        is_text: bool,
+        null_word: &str,
+    ) -> Result<bool, AllocError> {
+        if cell == null_word.as_bytes() {
+            self.put_null()?;
+            return Ok(true);
+        }
+        self.put_cell(cell, is_text)
+    }
+
+    fn write_cell(&self, row: usize, null_word: &str, to: &mut Vec<u8>) -> Result<(), AllocError> {
+        let (chunk, place) = self.locate(row);
+        chunk.write_cell(place, null_word, to)
+    }
+
+    fn take(&self, rows: &[IdxSize]) -> PolarsResult<Self> {
+        let mut taken = A::empty(self.allocator());
+        taken.reserve(rows.len())?;
+        for row in rows {
+            let (chunk, place) = self.locate(*row as usize);
+            taken.push_from(chunk, place)?;
+        }
+        Ok(ChunkedArray {
+            name: self.name.try_clone()?,
+            earlier: Vec::new(self.allocator()),
+            last: taken,
+            sorted: IsSorted::Not,
+        })
+    }
+}
+
 impl<A: Array> ChunkedArray<A> {
+    ghost use Rattle.gb_cols.specs.Array.{if_taken};
+    ghost use Rattle.gb_cols.specs.Column.{HasRoom, appended, pushed};
     ghost use Rattle.gb_cols.specs.PlSmallStr.{name_of, IsNoMemory};
-    ghost use Rattle.gb_cols.specs.DataType.{type_of};
-    ghost use Rattle.gb_cols.specs.Column.{appended, pushed};
-    ghost use Rattle.gb_cols.specs.Sorted.{flag_of};
-    ghost use Rattle.std.specs.List.{count_by};
-    ghost use Rattle.gb_defs.specs.Slot.{is_nil};
-    ghost use Rattle.gb_defs.specs.Column.{fresh_column, taken, IsFlagTrue};
-    ghost use Rattle.gb_defs.specs.ColumnType.{Fits};
+    ghost use Rattle.gb_defs.specs.Cell.{value_of_field};
+    ghost use Rattle.gb_defs.specs.Column.{fresh_column};
 
     /// No slots.
     pub fn new(alloc: Global, name: PlSmallStr) -> Self
@@ -90,93 +184,12 @@ impl<A: Array> ChunkedArray<A> {
         }
     }
 
-    pub fn name(&self) -> &PlSmallStr
-        ensures name { name_of result.now ≡ self.now.name }
-        ensures typed { self.now.dtype ≡ A.dtype }
-    {
-        &self.name
-    }
-
-    /// What its chunks are allocated by. Its type is that of its storage.
-    pub fn allocator(&self) -> Global
-        ensures typed { self.now.dtype ≡ A.dtype }
-    {
-        *self.earlier.allocator()
-    }
-
-    /// The type. It takes no memory today.
-    pub fn dtype(&self) -> PolarsResult<DataType>
-        ensures ok { IfOk result (λ dtype. type_of dtype ≡ self.now.dtype) }
-        ensures err { IfErr result IsNoMemory }
-    {
-        // The use of a field brings in the type's invariant.
-        let _ = &self.name;
-        Ok(A::data_type())
-    }
-
-    /// One pass over the chunks. It also tells what holds of each column's slots and chunks.
-    pub fn len(&self) -> usize
-        ensures value { result ≡ length self.now.slots }
-        ensures small { result < 2 ^ 63 }
-        ensures chunks { sum self.now.chunks ≡ length self.now.slots }
-        ensures fitting { All (Fits self.now.dtype) self.now.slots }
-    {
-        let mut total = 0;
-        for chunk in &self.earlier {
-            total += chunk.len();
-        }
-        total + self.last.len()
-    }
-
-    pub fn is_empty(&self) -> bool
-        ensures { result ≡ (length self.now.slots == 0) }
-    {
-        self.len() == 0
-    }
-
-    /// One pass over the chunks.
-    pub fn null_count(&self) -> usize
-        ensures { result ≡ count_by is_nil self.now.slots }
-    {
-        let mut total = 0;
-        for chunk in &self.earlier {
-            total += chunk.null_count();
-        }
-        total + self.last.null_count()
-    }
-
-    /// What is known of the order of the slots.
-    pub fn is_sorted_flag(&self) -> IsSorted
-        ensures value { flag_of result ≡ self.now.sorted }
-        ensures holds { IsFlagTrue self.now.sorted self.now.dtype self.now.slots }
-    {
-        self.sorted
-    }
-
-    pub fn rename(&mut self, name: PlSmallStr)
-        ensures { self.new ≡ record self.old { name = name_of name } }
-    {
-        self.name = name;
-    }
-
     /// Makes room for so many slots more in the last chunk.
     pub fn reserve(&mut self, additional: usize) -> PolarsResult<()>
         ensures same { self.new ≡ self.old }
         ensures err { IfErr result IsNoMemory }
     {
         self.last.reserve(additional)?;
-        Ok(())
-    }
-
-    /// One null more at the end of the last chunk.
-    pub fn push_null(&mut self) -> PolarsResult<()>
-        requires { length self.old.slots + 1 < 2 ^ 63 }
-        ensures ok { OnOk result (self.new ≡ pushed self.old Nil) }
-        ensures err { IfErr result IsNoMemory }
-        ensures unchanged { OnErr result (self.new ≡ self.old) }
-    {
-        self.last.push_null()?;
-        self.sorted = IsSorted::Not;
         Ok(())
     }
 
@@ -204,24 +217,33 @@ impl<A: Array> ChunkedArray<A> {
         Ok(())
     }
 
-    /// The slots of these rows, in one chunk.
-    pub fn take(&self, rows: &[IdxSize]) -> PolarsResult<Self>
-        requires { All (λ row. row < length self.now.slots) rows.now }
-        ensures ok { IfOk result (λ c. c ≡ taken rows.now self.now) }
-        ensures err { IfErr result IsNoMemory }
+    // One null more at the end of the last chunk.
+    #[inline]
+    fn put_null(&mut self) -> Result<(), AllocError>
+        requires { HasRoom self.old }
+        ensures ok { OnOk result (self.new ≡ pushed self.old Nil) }
+        ensures unchanged { OnErr result (self.new ≡ self.old) }
     {
-        let mut taken = A::empty(self.allocator());
-        taken.reserve(rows.len())?;
-        for row in rows {
-            let (chunk, place) = self.locate(*row as usize);
-            taken.push_from(chunk, place)?;
+        self.last.push_null()?;
+        self.sorted = IsSorted::Not;
+        Ok(())
+    }
+
+    // The value that a cell reads as at the end of the last chunk, and whether it reads.
+    #[inline(always)]
+    fn put_cell(&mut self, cell: &[u8], is_text: bool) -> Result<bool, AllocError>
+        requires room { HasRoom self.old }
+        requires is_text { is_text ≡ true → IsUtf8 cell.now }
+        ensures ok { IfOk result (λ took. if_taken took self.new
+            ≡ option_map (pushed self.old) (value_of_field self.old.dtype cell.now)) }
+        ensures refused { IfOk result (λ took. OnFalse took (self.new ≡ self.old)) }
+        ensures unchanged { OnErr result (self.new ≡ self.old) }
+    {
+        if !self.last.push_cell(cell, is_text)? {
+            return Ok(false);
         }
-        Ok(ChunkedArray {
-            name: self.name.try_clone()?,
-            earlier: Vec::new(self.allocator()),
-            last: taken,
-            sorted: IsSorted::Not,
-        })
+        self.sorted = IsSorted::Not;
+        Ok(true)
     }
 
     // The chunk that a row stands in, and its place there.
@@ -229,6 +251,7 @@ impl<A: Array> ChunkedArray<A> {
         requires { row < length self.now.slots }
         ensures inside { result.1 < length (A.slots result.0.now) }
         ensures slot { slot_at (A.slots result.0.now) result.1 ≡ slot_at self.now.slots row }
+        ensures typed { self.now.dtype ≡ A.dtype }
     {
         let mut place = row;
         for chunk in &self.earlier {

@@ -1,44 +1,134 @@
-//! The storage of numbers.
+//! Numbers in a row, and the storage of columns of numbers.
 
-ghost use Rattle.std.specs.Prelude.{◌≡◌, ℕ, ◌+◌, ◌++◌, ◌∷◌, ◌<◌, [], length, map, IfOk, OnOk, OnErr};
-ghost use Rattle.gb_defs.specs.Slot.{Slot, Nil, Num, slot_at};
+ghost use Rattle.std.specs.Prelude.{◌≡◌, ◌++◌, ◌∷◌, ◌<◌, [], length, false, map, get_or, pos, IfOk, OnOk, OnErr};
+ghost use Rattle.gb_defs.specs.ColumnType.{Flat};
+ghost use Rattle.gb_defs.specs.Slot.{Num, slot_at};
 ghost use Rattle.gb_cols.specs.Array.{number_slot_of};
+ghost use Rattle.gb_cols.specs.Keys.{HasWideMore, HasWordsMore, IsToldByWide, IsToldByWord, wide_key, word_key};
+ghost use Rattle.gb_cols.specs.Native.{is_wide};
+ghost use Rattle.gb_cols.specs.NoNil.{numbers_no_nil};
 
 use crate::array::Array;
 use crate::data_type::DataType;
+use crate::native::Native;
+use crate::nullable::NullableArray;
 use crate::numeric::PolarsNumericType;
-use crate::validity::Validity;
+use crate::values::Values;
+use itoa::Buffer;
 use std::alloc::{AllocError, Global};
 use std::marker::Model;
 
-/// Numbers that may be null: the values, and whether each is valid; no flags where none is null.
+/// Numbers in a row.
 #[derive(Drop)]
-pub struct PrimitiveArray<T: PolarsNumericType> {
+pub struct NumberValues<T: PolarsNumericType> {
     values: Vec<T::Native>,
-    validity: Validity,
 }
 
-impl<T: PolarsNumericType> Model for PrimitiveArray<T> {
-    ghost use Rattle.std.specs.Prelude.{List};
-    ghost use Rattle.gb_defs.specs.Slot.{Slot, slot_code};
-    ghost use Rattle.std.specs.Coded.{coded_list};
-    ghost use Rattle.gb_cols.specs.Array.{primitive_slots, IsPrimitiveArray};
+/// Numbers that may be null.
+pub type PrimitiveArray<T> = NullableArray<NumberValues<T>>;
 
-    ghost Value = { List Slot };
+impl<T: PolarsNumericType> Model for NumberValues<T> {
+    ghost use Rattle.std.specs.Prelude.{List, map, ℤ};
+    ghost use Rattle.std.specs.Coded.{coded_list, coded_ℤ};
+    ghost use Rattle.std.specs.List.{All};
+    ghost use Rattle.gb_defs.specs.ColumnType.{FitsNumber};
 
-    ghost coded = { coded_list slot_code };
+    ghost Value = { List ℤ };
 
-    ghost view = { λ a. primitive_slots T.number a.values.items a.validity.flags.items };
+    ghost coded = { coded_list coded_ℤ };
 
-    ghost invariant = { λ a. IsPrimitiveArray T.number T.dtype a.values.items a.validity.flags.items };
+    ghost view = { λ v. map T.Native.number v.values.items };
+
+    ghost invariant = { λ v. All (FitsNumber T.Native.flat) (map T.Native.number v.values.items) };
 }
 
-impl<T: PolarsNumericType> PrimitiveArray<T> {
+impl<T: PolarsNumericType> NumberValues<T> {
+    /// The number at a place.
+    #[inline]
+    pub(crate) fn get(&self, i: usize) -> T::Native
+        requires { i < length self.now }
+        ensures { T.Native.number result ≡ get_or self.now i (pos 0) }
+    {
+        self.values[i]
+    }
+
+    /// One number more at the end.
+    #[inline]
+    pub(crate) fn push(&mut self, value: T::Native) -> Result<(), AllocError>
+        ensures ok { OnOk result (self.new ≡ self.old ++ T.Native.number value ∷ []) }
+        ensures err { OnErr result (self.new ≡ self.old) }
+    {
+        self.values.reserve(1)?;
+        value.value_fits();
+        self.values.push_reserved(value);
+        Ok(())
+    }
+}
+
+impl<T: PolarsNumericType> Values for NumberValues<T> {
+    ghost slots = { λ v. map (λ n. Num n) v };
+
+    ghost dtype = { Flat T.Native.flat };
+
+    ghost none_null = { numbers_no_nil };
+
+    fn empty(alloc: Global) -> Self {
+        NumberValues {
+            values: Vec::new(alloc),
+        }
+    }
+
+    fn data_type() -> DataType {
+        T::data_type()
+    }
+
+    fn len(&self) -> usize {
+        T::Native::values_are_few(&self.values);
+        self.values.len()
+    }
+
+    fn reserve(&mut self, additional: usize) -> Result<(), AllocError> {
+        self.values.reserve(additional)
+    }
+
+    fn push_filler(&mut self) -> Result<(), AllocError> {
+        self.push(T::Native::zero())
+    }
+
+    fn push_from(&mut self, other: &Self, i: usize) -> Result<(), AllocError> {
+        self.push(other.get(i))
+    }
+
+    #[inline(always)]
+    fn push_cell(&mut self, cell: &[u8], _is_text: bool) -> Result<bool, AllocError> {
+        match T::Native::from_cell(cell) {
+            Some(value) => {
+                self.push(value)?;
+                Ok(true)
+            }
+            None => Ok(false),
+        }
+    }
+
+    fn write_cell(&self, i: usize, to: &mut Vec<u8>) -> Result<(), AllocError> {
+        let mut digits = Buffer::new();
+        to.extend_from_slice(digits.format(self.get(i)).as_bytes())?;
+        Ok(())
+    }
+
+    fn try_clone(&self) -> Result<Self, AllocError> {
+        Ok(NumberValues {
+            values: Vec::from_slice(*self.values.allocator(), &self.values)?,
+        })
+    }
+}
+
+impl<T: PolarsNumericType> NullableArray<NumberValues<T>> {
     /// These numbers, none of them null.
     pub fn from_slice(alloc: Global, values: &[T::Native]) -> Result<Self, AllocError>
-        ensures { IfOk result (λ a. a ≡ map (λ n. Num (T.number n)) values.now) }
+        ensures { IfOk result (λ a. a ≡ map (λ n. Num (T.Native.number n)) values.now) }
     {
-        let mut array: Self = PrimitiveArray::empty(alloc);
+        let mut array: Self = NullableArray::empty(alloc);
         array.reserve(values.len())?;
         for value in values {
             array.push_valid(*value)?;
@@ -47,12 +137,13 @@ impl<T: PolarsNumericType> PrimitiveArray<T> {
     }
 
     /// The number at a place.
+    #[inline]
     pub fn get(&self, i: usize) -> Option<T::Native>
         requires { i < length self.now }
-        ensures { number_slot_of T.number result ≡ slot_at self.now i }
+        ensures { number_slot_of T.Native.number result ≡ slot_at self.now i }
     {
         if self.validity.is_valid(i) {
-            Some(self.values[i])
+            Some(self.values.get(i))
         } else {
             None
         }
@@ -60,7 +151,7 @@ impl<T: PolarsNumericType> PrimitiveArray<T> {
 
     /// One slot more at the end.
     pub fn push(&mut self, value: Option<T::Native>) -> Result<(), AllocError>
-        ensures ok { OnOk result (self.new ≡ self.old ++ number_slot_of T.number value ∷ []) }
+        ensures ok { OnOk result (self.new ≡ self.old ++ number_slot_of T.Native.number value ∷ []) }
         ensures err { OnErr result (self.new ≡ self.old) }
     {
         match value {
@@ -70,66 +161,65 @@ impl<T: PolarsNumericType> PrimitiveArray<T> {
     }
 
     // One number more at the end.
+    #[inline]
     fn push_valid(&mut self, value: T::Native) -> Result<(), AllocError>
-        ensures ok { OnOk result (self.new ≡ self.old ++ Num (T.number value) ∷ []) }
+        ensures ok { OnOk result (self.new ≡ self.old ++ Num (T.Native.number value) ∷ []) }
         ensures err { OnErr result (self.new ≡ self.old) }
     {
-        self.values.reserve(1)?;
-        self.validity.push_valid()?;
-        T::value_fits(value);
-        self.values.push_reserved(value);
+        self.validity.reserve_one()?;
+        self.values.push(value)?;
+        self.validity.push_reserved_valid();
+        Ok(())
+    }
+
+    /// The words of the numbers behind the keys before, null as `None`.
+    pub(crate) fn push_words(&self, keys: &mut Vec<Option<u64>>) -> Result<(), AllocError>
+        requires narrow { is_wide T.Native.width ≡ false }
+        ensures { OnOk result
+            (HasWordsMore T.Native.flat self.now keys.old.items keys.new.items) }
+    {
+        let count = self.len();
+        keys.reserve(count)?;
+        for i in 0..count {
+            keys.push_reserved(word_of(self.get(i)));
+        }
+        Ok(())
+    }
+
+    /// The wide words of the numbers behind the keys before, null as `None`.
+    pub(crate) fn push_wide(&self, keys: &mut Vec<Option<u128>>) -> Result<(), AllocError>
+        ensures { OnOk result (HasWideMore T.Native.flat self.now keys.old.items keys.new.items) }
+    {
+        let count = self.len();
+        keys.reserve(count)?;
+        for i in 0..count {
+            keys.push_reserved(wide_of(self.get(i)));
+        }
         Ok(())
     }
 }
 
-impl<T: PolarsNumericType> Array for PrimitiveArray<T> {
-    ghost slots = { λ a. a };
-
-    ghost dtype = { T.dtype };
-
-    fn empty(alloc: Global) -> Self {
-        PrimitiveArray {
-            values: Vec::new(alloc),
-            validity: Validity::new(alloc),
-        }
+// The word of a number, None of a null.
+#[inline]
+fn word_of<N: Native>(number: Option<N>) -> Option<u64>
+    requires narrow { is_wide N.width ≡ false }
+    ensures key { result ≡ word_key (number_slot_of N.number number) }
+    ensures back { IsToldByWord N.flat (number_slot_of N.number number) }
+{
+    match number {
+        Some(number) => Some(number.to_word()),
+        None => None,
     }
+}
 
-    fn data_type() -> DataType {
-        T::data_type()
-    }
-
-    fn len(&self) -> usize {
-        T::values_are_few(&self.values);
-        self.values.len()
-    }
-
-    fn is_valid(&self, i: usize) -> bool {
-        self.validity.is_valid(i)
-    }
-
-    fn null_count(&self) -> usize {
-        self.validity.null_count()
-    }
-
-    fn push_null(&mut self) -> Result<(), AllocError> {
-        self.values.reserve(1)?;
-        self.validity.push_null(self.values.len())?;
-        self.values.push_reserved(T::zero());
-        Ok(())
-    }
-
-    fn reserve(&mut self, additional: usize) -> Result<(), AllocError> {
-        self.values.reserve(additional)
-    }
-
-    fn push_from(&mut self, other: &Self, i: usize) -> Result<(), AllocError> {
-        self.push(other.get(i))
-    }
-
-    fn try_clone(&self) -> Result<Self, AllocError> {
-        Ok(PrimitiveArray {
-            values: Vec::from_slice(*self.values.allocator(), &self.values)?,
-            validity: self.validity.try_clone()?,
-        })
+// The wide word of a number, None of a null.
+#[inline]
+fn wide_of<N: Native>(number: Option<N>) -> Option<u128>
+    ensures key { result ≡ wide_key (number_slot_of N.number number) }
+    ensures back { IsToldByWide N.flat (number_slot_of N.number number) }
+{
+    match number {
+        Some(number) => Some(number.to_wide()),
+        None => None,
     }
 }

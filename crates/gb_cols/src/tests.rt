@@ -7,9 +7,10 @@ use crate::device::{Failed, Sink, Source};
 use crate::error::{Operation, PolarsError, PolarsResult};
 use crate::memory::{MemSink, SoundSource};
 use crate::nullable_idx::NullableIdxSize;
-use crate::numeric::Int64Type;
+use crate::numeric::{Int8Chunked, Int32Chunked, Int64Type, Int128Chunked};
 use crate::pool::Pool;
 use crate::primitive::PrimitiveArray;
+use crate::series_trait::SeriesTrait;
 use crate::small_str::PlSmallStr;
 use crate::sorted::IsSorted;
 use crate::standard::StderrSink;
@@ -45,6 +46,58 @@ fn numbers_in_two_chunks(rt: HostRuntime) -> Result<(), Fail> {
     assert_eq!(rt; taken.len(), 2);
     assert_eq!(rt; taken.get(0), Some(8));
     assert_eq!(rt; taken.get(1), Some(4294967295));
+    Ok(())
+}
+
+#[test]
+fn keys_of_each_form(rt: HostRuntime) -> Result<(), Fail> {
+    let alloc = rt.alloc();
+    let mut column = Int32Chunked::from_slice_options(alloc, name_of(alloc)?, &[Some(-1), None])?;
+    column.append(Int32Chunked::from_slice(alloc, name_of(alloc)?, &[1])?)?;
+    let words = [Some(u64::MAX), None, Some(1)];
+    assert_eq!(rt; column.words()?.as_slice(), words.as_slice());
+    let column = Int128Chunked::from_slice(alloc, name_of(alloc)?, &[-1, 1 << 64])?;
+    let wide = [Some(u128::MAX), Some(1 << 64)];
+    assert_eq!(rt; column.wide_words()?.as_slice(), wide.as_slice());
+    Ok(())
+}
+
+#[test]
+fn texts_as_bytes(rt: HostRuntime) -> Result<(), Fail> {
+    let alloc = rt.alloc();
+    let mut column = StringChunked::new(alloc, name_of(alloc)?);
+    column.push(Some("ab"))?;
+    column.push(None)?;
+    assert!(rt; column.all_valid().is_none());
+    let bytes = column.byte_slices()?;
+    assert_eq!(rt; bytes.len(), 2);
+    assert!(rt; bytes[0] == Some(b"ab".as_slice()) && bytes[1].is_none());
+    Ok(())
+}
+
+// Puts a cell at the end of a short column.
+fn push_short(column: &mut Int8Chunked, cell: &str) -> PolarsResult<bool> {
+    if column.len() > 9 {
+        return Ok(false);
+    }
+    Ok(column.push_cell(cell.as_bytes(), true, "")?)
+}
+
+#[test]
+fn cells_read_and_written(rt: HostRuntime) -> Result<(), Fail> {
+    let alloc = rt.alloc();
+    let mut column = Int8Chunked::new(alloc, name_of(alloc)?);
+    let cells = ["-128", "", "+7", "128", "x", "-"];
+    for (place, cell) in cells.iter().enumerate() {
+        assert_eq!(rt; push_short(&mut column, cell)?, place < 3, "{cell}");
+    }
+    assert_eq!(rt; column.len(), 3);
+    assert!(rt; !column.is_valid(1));
+    let mut text = Vec::new(alloc);
+    column.write_cell(0, "null", &mut text)?;
+    column.write_cell(1, "null", &mut text)?;
+    column.write_cell(2, "null", &mut text)?;
+    assert_eq!(rt; text.as_slice(), b"-128null7".as_slice());
     Ok(())
 }
 

@@ -1,8 +1,8 @@
 //! Which slots of a storage are null.
 
-ghost use Rattle.std.specs.Prelude.{◌≡◌, ◌++◌, ◌∷◌, [], true, false, not, IfOk, OnOk, OnErr, slice_index_or};
+ghost use Rattle.std.specs.Prelude.{◌≡◌, ◌<◌, ◌++◌, ◌∷◌, [], vec_len, vec_capacity, true, false, not, IfOk, OnOk, OnErr, slice_index_or};
 ghost use Rattle.std.specs.List.{count_by};
-ghost use Rattle.gb_cols.specs.Array.{filled, valid_pushed};
+ghost use Rattle.gb_cols.specs.Array.{HasRoomForValid, filled, valid_pushed};
 
 use std::alloc::{AllocError, Global};
 
@@ -31,6 +31,13 @@ impl Validity {
         }
     }
 
+    /// Whether there are no flags, so that every slot is valid.
+    pub(crate) fn is_empty(&self) -> bool
+        ensures { result ≡ true → self.now.flags.items ≡ [] }
+    {
+        self.flags.is_empty()
+    }
+
     /// How many flags say that a slot is null.
     pub(crate) fn null_count(&self) -> usize
         ensures { result ≡ count_by not self.now.flags.items }
@@ -38,32 +45,52 @@ impl Validity {
         self.flags.iter().filter(|flag| !**flag).count()
     }
 
-    /// One slot more that is valid.
-    pub(crate) fn push_valid(&mut self) -> Result<(), AllocError>
-        ensures ok { OnOk result (self.new.flags.items ≡ valid_pushed self.old.flags.items) }
-        ensures err { OnErr result (self.new.flags.items ≡ self.old.flags.items) }
+    /// Room for the flag of one slot more that is valid, where there are flags.
+    #[inline]
+    pub(crate) fn reserve_one(&mut self) -> Result<(), AllocError>
+        ensures same { self.new.flags.items ≡ self.old.flags.items }
+        ensures room { OnOk result (HasRoomForValid self.new.flags) }
     {
         if !self.flags.is_empty() {
-            self.flags.push(true)?;
+            self.flags.reserve(1)?;
         }
         Ok(())
     }
 
-    /// One slot more that is null, after so many. The first null gives each earlier slot its flag.
-    pub(crate) fn push_null(&mut self, count: usize) -> Result<(), AllocError>
-        ensures ok { OnOk result
-            (self.new.flags.items ≡ filled count self.old.flags.items ++ false ∷ []) }
+    /// One slot more that is valid, for which there is room.
+    #[inline]
+    pub(crate) fn push_reserved_valid(&mut self)
+        requires { HasRoomForValid self.old.flags }
+        ensures { self.new.flags.items ≡ valid_pushed self.old.flags.items }
+    {
+        if !self.flags.is_empty() {
+            self.flags.push_reserved(true);
+        }
+    }
+
+    /// A flag for each of so many slots, where there are none, and room for one more.
+    pub(crate) fn fill(&mut self, count: usize) -> Result<(), AllocError>
+        ensures ok { OnOk result (self.new.flags.items ≡ filled count self.old.flags.items) }
+        ensures room { OnOk result (vec_len self.new.flags < vec_capacity self.new.flags) }
         ensures err { OnErr result (self.new.flags.items ≡ self.old.flags.items) }
     {
         if self.flags.is_empty() {
             let mut flags = Vec::new(*self.flags.allocator());
             flags.resize(count, true)?;
-            flags.push(false)?;
+            flags.reserve(1)?;
             self.flags = flags;
         } else {
-            self.flags.push(false)?;
+            self.flags.reserve(1)?;
         }
         Ok(())
+    }
+
+    /// One slot more that is null, for which there is room.
+    pub(crate) fn push_reserved_null(&mut self)
+        requires { vec_len self.old.flags < vec_capacity self.old.flags }
+        ensures { self.new.flags.items ≡ self.old.flags.items ++ false ∷ [] }
+    {
+        self.flags.push_reserved(false);
     }
 
     /// The same flags.

@@ -7,7 +7,7 @@ use Rattle.std.proofs.lemmas.List.{append-nil, map-append}
 use Rattle.std.proofs.lemmas.List.Elements.{All-filter, All-from_recursion, filter-append, recursion_from_All}
 use Rattle.gb_defs.specs.Classes.{class, is_first, firsts, groups, rows_below}
 use Rattle.gb_defs.specs.Hash.{partition_of}
-use Rattle.gb_defs.proofs.ClassesLemmas.{rows_below_all}
+use Rattle.gb_defs.proofs.ClassesLemmas.{all_filters, all_from_below, classes_alike, filter_agree_on, firsts_alike, firsts_inside, rows_below_all}
 use Rattle.gb_defs.specs.Partitions.{by_partition, in_partition, partition_groups}
 
 -- one filter after another
@@ -77,11 +77,11 @@ module _ (agree : ℕ → ℕ → Bool) (n : ℕ) (q : ℕ → Bool) (together :
 
 -- ---- all partitions, one after another
 
-map_flat_map : {X : Type 0} (f : ℕ → X) (g : ℕ → List ℕ) (ps : List ℕ) → map f (flat_map g ps) ≡ flat_map (λ p. map f (g p)) ps
+pub map_flat_map : {A B C : Type 0} (f : B → C) (g : A → List B) (xs : List A) → map f (flat_map g xs) ≡ flat_map (λ x. map f (g x)) xs
 map_flat_map f g [] = refl
-map_flat_map f g (p ∷ ps) = map-append f (g p) (flat_map g ps) ∙ ap (λ xs. map f (g p) ++ xs) (map_flat_map f g ps)
+map_flat_map f g (x ∷ xs) = map-append f (g x) (flat_map g xs) ∙ ap (λ ys. map f (g x) ++ ys) (map_flat_map f g xs)
 
-flat_map_same : {X : Type 0} (f g : ℕ → List X) → ((p : ℕ) → f p ≡ g p) → (ps : List ℕ) → flat_map f ps ≡ flat_map g ps
+pub flat_map_same : {X : Type 0} (f g : ℕ → List X) → ((p : ℕ) → f p ≡ g p) → (ps : List ℕ) → flat_map f ps ≡ flat_map g ps
 flat_map_same f g h [] = refl
 flat_map_same f g h (p ∷ ps) = rw (h p, flat_map_same f g h ps)
 
@@ -157,3 +157,25 @@ module _ (t : ℕ → Bool) (k : ℕ) (one : (x : ℕ) → t x ≡ true → x �
         | inl inside ↦ rw (zero-add n, le-ltb (partition_of (hash k) n) 0 reached, lt-ltb (partition_of (hash k) n) n inside)
         | inr outside ↦ rw (zero-add n, le-ltb (partition_of (hash k) n) 0 reached, le-ltb (partition_of (hash k) n) n outside) (sym (filter_absent (λ i. partition_of (hash i) n) n rows outside within))
       ]
+
+-- ---- rows that agree alike, and whose hashes are the same
+
+module _ (h k : ℕ → ℕ) (n count : ℕ) (same : (i : ℕ) → i < count → h i ≡ k i) where
+  by_partition_alike : (xs : List ℕ) → AllByRecursion (λ i. i < count) xs → by_partition h n xs ≡ by_partition k n xs
+  unfolding by_partition
+  by_partition_alike xs below = flat_map_same _ _ (λ p.
+      let each = all_from_below (λ i. in_partition h n p i ≡ in_partition k n p i) count (λ i lt. ap (λ x. eqb (partition_of x n) p) (same i lt)) xs below in
+      filter_agree_on (in_partition h n p) (in_partition k n p) xs each) (range_with_len 0 n)
+
+  by_partition_below : (xs : List ℕ) → AllByRecursion (λ i. i < count) xs → AllByRecursion (λ i. i < count) (by_partition h n xs)
+  unfolding by_partition
+  by_partition_below xs below = all_filters (λ i. i < count) (in_partition h n) xs below (range_with_len 0 n)
+
+  pub partition_groups_alike : (a b : ℕ → ℕ → Bool) → ((i j : ℕ) → i < count → j < count → a i j ≡ b i j) →
+      partition_groups a h n (rows_below count) ≡ partition_groups b k n (rows_below count)
+  unfolding partition_groups
+  partition_groups_alike a b alike =
+      let rows = rows_below count in
+      let inside = firsts_inside a b count alike in
+      classes_alike a b count alike (by_partition h n (firsts a rows)) (by_partition_below (firsts a rows) inside)
+      ∙ ap (map (λ i. (i, class b rows i))) (by_partition_alike (firsts a rows) inside ∙ ap (by_partition k n) (firsts_alike a b count alike))

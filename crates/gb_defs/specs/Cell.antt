@@ -16,9 +16,13 @@ use Rattle.gb_defs.specs.TypeWord.{scale_of}
 abbrev pub is_numeral : List ℕ → Bool
 is_numeral bs = not (length bs == 0) && all_ascii_digits bs
 
--- the number that digits write, None where a byte is no digit or 64 bits are too few
+-- the number that digits write, None where a byte is no digit or the number is not below a limit
+abbrev pub magnitude_within : ℕ → List ℕ → Option ℕ
+magnitude_within limit bs = if all_ascii_digits bs && nat_lt (digits_value 10 bs) limit then Some (digits_value 10 bs) else None
+
+-- the same, None where 64 bits are too few
 abbrev pub magnitude : List ℕ → Option ℕ
-magnitude bs = if all_ascii_digits bs && nat_lt (digits_value 10 bs) (2 ^ 64) then Some (digits_value 10 bs) else None
+magnitude bs = magnitude_within (2 ^ 64) bs
 
 -- whether a number is in the range of a signed type
 abbrev pub fits_signed : Width → ℤ → Bool
@@ -100,7 +104,8 @@ cell_slot null_word t bs = if bytes_eq bs null_word then Some Nil else value_of_
 
 -- whether cells of the type are read today
 abbrev pub is_read_flat : FlatType → Bool
-is_read_flat (Signed w) = hbits w == 63
+is_read_flat (Unsigned w) = true
+is_read_flat (Signed w) = true
 is_read_flat String = true
 is_read_flat _ = false
 

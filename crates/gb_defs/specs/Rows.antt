@@ -1,5 +1,5 @@
 -- Rows that have keys, as a grouping sees them, and their groups by one table and by partitions.
-use Rattle.std.specs.Prelude.{◌≡◌, ℕ, ◌+◌, ◌≤◌, Bool, List, length, map}
+use Rattle.std.specs.Prelude.{◌≡◌, ℕ, ◌+◌, ◌<◌, ◌≤◌, Bool, List, length, map}
 use Rattle.std.specs.List.{range_with_len}
 use Rattle.std.specs.Int.{Width}
 use Rattle.gb_defs.specs.Slot.{Slot, slot_at, slot_eq}
@@ -21,6 +21,12 @@ rows_of_slots width seed mix slots = record { count = length slots; slot = slot_
 -- rows with one slot
 abbrev pub same_slot_at : (ℕ → Slot) → ℕ → ℕ → Bool
 same_slot_at slot i j = slot_eq (slot i) (slot j)
+
+-- rows stand for others: as many, agreeing alike, hashing alike
+pub record StandsFor (own rows : Rows) : Type 0 where
+  pub many : rows.count ≡ own.count
+  pub agree : (i j : ℕ) → i < own.count → j < own.count → same_slot_at own.slot i j ≡ same_slot_at rows.slot i j
+  pub hashed : (i : ℕ) → i < own.count → own.hash i ≡ rows.hash i
 
 -- the groups by one table: in the order of their first rows
 abbrev pub table_groups : Rows → Bool → Grouping

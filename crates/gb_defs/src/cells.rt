@@ -71,6 +71,6 @@ pub fn printed()
         (Items (And (Num (pos 0)) (And (Num (pos 2)) End))) ≡ codes "[\"b\",2]" }
     ensures list_word { type_word (ListOf (decimal_of 2)) ≡ codes "list[dec2]" }
     ensures array_word { type_word (ArrayOf text 3) ≡ codes "array[str;3]" }
-    ensures struct_word { type_word (StructOf (Field (codes "a") int64 (Field (codes "b") text NoFields)))
-        ≡ codes "struct[i64,str]" }
+    ensures struct_word { let fields = Field (codes "a") int64 (Field (codes "b") text NoFields) in
+        type_word (StructOf fields) ≡ codes "struct[i64,str]" }
 {}

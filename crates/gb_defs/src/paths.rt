@@ -21,8 +21,8 @@ pub fn plain_keys()
 /// The path of a key that bears a flag.
 pub fn flagged_keys()
     ensures numbers { path_by 2 (flagged_as Ascending (nulls_of int64 3)) ≡ Sorted }
-    ensures texts { path_by 2 (flagged_as Descending (fresh_column [] text (Bytes (codes "a") ∷ [])))
-        ≡ Sorted }
+    ensures texts { let key = fresh_column [] text (Bytes (codes "a") ∷ []) in
+        path_by 2 (flagged_as Descending key) ≡ Sorted }
     ensures texts_and_null { path_by 2 (flagged_as Ascending (nulls_of text 3)) ≡ Threaded }
     ensures unused_codes { path_by 2 (nulls_of b_and_a 2) ≡ Table }
     ensures used_codes { path_by 2 (record (nulls_of b_and_a 2) { all_used = true }) ≡ Perfect }

@@ -1,6 +1,6 @@
 //! What the definitions give on worked rows: each clause is an equation that computes.
 
-ghost use Rattle.std.specs.Prelude.{◌≡◌, codes, [], ◌∷◌, Some, None};
+ghost use Rattle.std.specs.Prelude.{◌≡◌, codes, [], ◌∷◌, ◌++◌, Some, None};
 ghost use Rattle.gb_defs.specs.Outcome.{outcome, Report, BadTable, BadGroup};
 ghost use Rattle.gb_defs.specs.Table.{BadCell, NoHeader, Ragged, SameName};
 ghost use Rattle.gb_defs.specs.Fault.{ColumnNotFound, InvalidOperation, OfSum};
@@ -23,15 +23,22 @@ pub fn requests()
     ensures repeated { asked (codes "--by" ∷ codes "k" ∷ codes "--by" ∷ codes "j" ∷ []) ≡ None }
     ensures out_of_range { asked (codes "--by" ∷ codes "k" ∷ codes "--workers" ∷ codes "65" ∷ [])
         ≡ None }
-    ensures value_like_an_option { asked (codes "--null" ∷ codes "--by" ∷ codes "--by" ∷ codes "k" ∷ [])
+    ensures value_like_an_option { asked (codes "--null" ∷ codes "--by"
+        ∷ codes "--by" ∷ codes "k" ∷ [])
         ≡ Some null_by }
 {}
 
 /// What a request makes of a table's text.
 pub fn outcomes()
     ensures sums_and_counts { outcome sums_by_date
-        (codes "date,temp:i64\n2020-08-21,20\n2020-08-21,10\n2020-08-22,7\n2020-08-23,9\n2020-08-22,1\n")
-        ≡ Report (codes "date:str,temp_sum:i64,temp_count:u32\n2020-08-21,30,2\n2020-08-22,8,2\n2020-08-23,9,1\n") }
+        (codes "date,temp:i64\n2020-08-21,20\n2020-08-21,10\n"
+        ++ codes "2020-08-22,7\n2020-08-23,9\n2020-08-22,1\n")
+        ≡ Report (codes "date:str,temp_sum:i64,temp_count:u32\n2020-08-21,30,2\n"
+        ++ codes "2020-08-22,8,2\n2020-08-23,9,1\n") }
+    ensures wide_keys { outcome sums_by_key (codes "k:i128,v:i32\n1,5\n4294967297,6\n1,7\n")
+        ≡ Report (codes "k:i128,v_sum:i32\n1,12\n4294967297,6\n") }
+    ensures sum_wraps { outcome sums_by_key (codes "k,v:i32\nx,2147483647\nx,1\n")
+        ≡ Report (codes "k:str,v_sum:i32\nx,-2147483648\n") }
     ensures null_is_a_group { outcome sums_by_key (codes "k,v:i64\n,5\n1,6\n,7\n")
         ≡ Report (codes "k:str,v_sum:i64\n,12\n1,6\n") }
     ensures number_key { outcome sums_by_key (codes "k:i64,v:i64\n,5\n1,6\n,7\n")
@@ -45,7 +52,7 @@ pub fn outcomes()
     ensures ragged { outcome keys_alone (codes "k\n1,2\n") ≡ BadTable (Ragged 1 2 1) }
     ensures same_name { outcome keys_alone (codes "a,a:i64\n") ≡ BadTable (SameName 2) }
     ensures no_header { outcome keys_alone (codes "") ≡ BadTable NoHeader }
-    ensures unread_type { outcome keys_alone (codes "k,v:i32\n") ≡ BadTable (BadCell 0 2) }
+    ensures unread_type { outcome keys_alone (codes "k,v:bool\n") ≡ BadTable (BadCell 0 2) }
     ensures header_from_the_left { outcome keys_alone (codes "k,k,v:i32\n")
         ≡ BadTable (SameName 2) }
     ensures first_bad_row { outcome keys_alone (codes "k,v:i64\na,1\nb\nc,x\n")

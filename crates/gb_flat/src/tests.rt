@@ -10,6 +10,7 @@ use crate::shares::{join_shares, map_shares};
 use gb_cols::error::PolarsResult;
 use gb_cols::nullable_idx::NullableIdxSize;
 use gb_cols::pool::Pool;
+use gb_cols::series_trait::SeriesTrait;
 use std::alloc::{AllocError, Global};
 use std::test::Fail;
 

@@ -99,6 +99,15 @@ impl GroupsType {
         }
     }
 
+    /// The first row of each group.
+    pub fn first(&self) -> &[IdxSize]
+        ensures { result.now ≡ map first_of (groups_of self.now).pairs }
+    {
+        match self {
+            GroupsType::Idx(groups) => groups.first(),
+        }
+    }
+
     /// The groups in order.
     pub fn iter(&self) -> GroupsTypeIter<'_>
         ensures { result ≡ (groups_of self.now).pairs }
@@ -166,6 +175,7 @@ mod tests {
             seen = 1;
         }
         assert_eq!(rt; groups.get(1).first(), 1);
+        assert_eq!(rt; groups.first(), [0, 1].as_slice());
         let lists = groups.unwrap_idx();
         assert_eq!(rt; lists.first(), [0, 1].as_slice());
         assert_eq!(rt; lists.all().len(), 2);

@@ -10,6 +10,7 @@ use Rattle.gb_defs.specs.Slot.{Slot, Num, Bytes}
 use Rattle.gb_defs.specs.Hash.{hash_of}
 use Rattle.gb_defs.specs.Rows.{Rows, rows_of_slots}
 use Rattle.gb_cols.specs.Array.{number_slot_of, text_slot}
+use Rattle.gb_cols.specs.Keys.{bytes_slot}
 
 -- numbers, equal where they are one
 pub keys_decide_by : {N : Type 0} (eq : N → N → Bool) (number : N → ℤ) → ((a b : N) → Decides (eq a b) (number a ≡ number b)) →
@@ -31,6 +32,13 @@ texts_decide None (Some b) = (λ e. cc, λ e. cc)
 texts_decide (Some a) None = (λ e. cc, λ e. cc)
 texts_decide (Some a) (Some b) = (λ e. ap (λ bytes. Bytes bytes) ((bytes_decides a.now b.now).0 e), λ e. (bytes_decides a.now b.now).1 (cc))
 
+-- bytes, equal where they are the same, with a null apart
+pub bytes_decide : (a b : Option (Bor (List ℕ))) → Decides (option_eq (λ x y. pointwise nat_eq x.now y.now) a b) (bytes_slot a ≡ bytes_slot b)
+bytes_decide None None = (λ _. refl, λ _. refl)
+bytes_decide None (Some b) = (λ e. cc, λ e. cc)
+bytes_decide (Some a) None = (λ e. cc, λ e. cc)
+bytes_decide (Some a) (Some b) = (λ e. ap (λ bytes. Bytes bytes) ((bytes_decides a.now b.now).0 e), λ e. (bytes_decides a.now b.now).1 (cc))
+
 -- the slots of numbers in a list
 abbrev pub key_slots : {K : Type 0} → (K → ℤ) → List K → List Slot
 key_slots number keys = map (λ k. Num (number k)) keys
@@ -41,3 +49,7 @@ HashAlike rows = (i j : ℕ) → i < rows.count → j < rows.count → rows.slot
 
 pub slots_alike : (width : Width) (seed : ℕ) (mix : ℕ → ℕ) (slots : List Slot) → HashAlike (rows_of_slots width seed mix slots)
 slots_alike width seed mix slots i j _ _ e = ap (hash_of width seed mix) e
+
+-- bytes, equal where they are the same
+pub plain_bytes_decide : (a b : Bor (List ℕ)) → Decides (pointwise nat_eq a.now b.now) (Bytes a.now ≡ Bytes b.now)
+plain_bytes_decide a b = (λ e. ap (λ bytes. Bytes bytes) ((bytes_decides a.now b.now).0 e), λ e. (bytes_decides a.now b.now).1 (cc))

@@ -13,6 +13,7 @@ use crate::mixer::Mixer;
 use crate::steps::Steps;
 use crate::word_hash::hash_null;
 use gb_cols::chunked::StringChunked;
+use gb_cols::series_trait::SeriesTrait;
 use std::sync::ledger::Ledger;
 
 /// The rows of a column of texts, with its texts as keys. A text's hash is that of its bytes.

@@ -12,10 +12,12 @@ pub mod dirty_hash;
 pub mod group_table;
 pub mod id_hasher;
 pub mod key_rows;
+pub mod list_rows;
 pub mod mixer;
 pub mod num_rows;
 pub mod slice_rows;
 pub mod steps;
 #[cfg(test)]
 mod tests;
+pub mod text_rows;
 pub mod word_hash;

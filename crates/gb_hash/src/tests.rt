@@ -2,6 +2,7 @@ use crate::combine::{_boost_hash_combine, folded_multiply, hash_to_partition};
 use crate::dirty_hash::DirtyHash;
 use crate::id_hasher::IdHasher;
 use crate::mixer::{Mixer, PlSeedableRandomStateQuality, SeedMixer};
+use gb_cols::native::Native;
 use std::test::Fail;
 
 #[test]
@@ -51,33 +52,35 @@ fn identity(rt: HostRuntime) -> Result<(), Fail> {
     Ok(())
 }
 
-#[test]
-fn numbers(rt: HostRuntime) -> Result<(), Fail> {
+// The hash of a number under the seed 7.
+fn hash_of<N: Native>(number: N) -> u64 {
     let mixer: PlSeedableRandomStateQuality = SeedMixer::new(7);
-    assert_eq!(rt; mixer.mix(0x9e37_79b9_7f4a_7c15), 0xe220_a839_7b1d_cdaf);
+    number.dirty_hash(&mixer)
+}
+
+#[test]
+fn words_are_mixed(rt: HostRuntime) -> Result<(), Fail> {
+    assert_eq!(rt;
+        SeedMixer::new(7).mix(0x9e37_79b9_7f4a_7c15),
+        0xe220_a839_7b1d_cdaf
+    );
+    Ok(())
+}
+
+#[test]
+fn numbers_with_no_sign(rt: HostRuntime) -> Result<(), Fail> {
     let five = 16879849568532771706;
-    let hashes = [
-        5u8.dirty_hash(&mixer),
-        5u16.dirty_hash(&mixer),
-        5u32.dirty_hash(&mixer),
-        5u64.dirty_hash(&mixer),
-        5i64.dirty_hash(&mixer),
-    ];
-    for hash in hashes {
-        assert_eq!(rt; hash, five);
-    }
+    assert_eq!(rt; (hash_of(5u8), hash_of(5u16)), (five, five));
+    assert_eq!(rt; (hash_of(5u32), hash_of(5u64)), (five, five));
+    assert_eq!(rt; hash_of(1u128 << 64), 17069728591328954800);
+    Ok(())
+}
+
+#[test]
+fn numbers_with_a_sign(rt: HostRuntime) -> Result<(), Fail> {
     let minus_one = 18246602271723342527;
-    let hashes = [
-        (-1i8).dirty_hash(&mixer),
-        (-1i16).dirty_hash(&mixer),
-        (-1i32).dirty_hash(&mixer),
-        (-1i64).dirty_hash(&mixer),
-        u64::MAX.dirty_hash(&mixer),
-    ];
-    for hash in hashes {
-        assert_eq!(rt; hash, minus_one);
-    }
-    assert_eq!(rt; (1u128 << 64).dirty_hash(&mixer), 17069728591328954800);
-    assert_eq!(rt; (-1i128).dirty_hash(&mixer), 490528790413895549);
+    assert_eq!(rt; (hash_of(-1i8), hash_of(-1i16)), (minus_one, minus_one));
+    assert_eq!(rt; (hash_of(-1i32), hash_of(-1i64)), (minus_one, minus_one));
+    assert_eq!(rt; hash_of(-1i128), 490528790413895549);
     Ok(())
 }

@@ -1,6 +1,6 @@
 -- The groups of all rows are well formed, on every path.
-use Rattle.std.proofs.Common.{◌≡◌, ℕ, zero, suc, ◌+◌, ◌<◌, ◌≤◌, pos, Bool, true, false, not, ◌&&◌, inl, inr, List, [], ◌∷◌, ◌++◌, length, get_or, map, filter, refl, sym, ◌∙◌, ap, arith, nat_lt}
-use Rattle.std.specs.List.{flat_map, list_any, range_with_len, AllByRecursion}
+use Rattle.std.proofs.Common.{◌≡◌, ℕ, zero, suc, ◌+◌, ◌<◌, ◌≤◌, pos, Bool, true, false, not, ◌&&◌, inl, inr, List, length, get_or, map, filter, refl, sym, ◌∙◌, ap, arith, nat_lt}
+use Rattle.std.specs.List.{list_any, range_with_len, AllByRecursion}
 use Rattle.std.proofs.lemmas.Bool.{cases_Bool, cases_eq, lt-ltb, true≢false}
 use Rattle.std.proofs.lemmas.List.Elements.{All-filter, All-from_recursion, All-map, filter_passes, recursion_from_All}
 use Rattle.gb_defs.specs.Classes.{class, firsts, groups, is_first, rows_below}
@@ -9,7 +9,7 @@ use Rattle.gb_defs.specs.Partitions.{by_partition, in_partition, partition_group
 use Rattle.gb_defs.specs.Path.{Path, Nulls, Sorted, Perfect, Table, Threaded, path_groups}
 use Rattle.gb_defs.specs.Rows.{Rows, same_slot_at}
 use Rattle.gb_defs.specs.Slot.{Num, is_nil, slot_eq}
-use Rattle.gb_defs.proofs.ClassesLemmas.{rows_below_all}
+use Rattle.gb_defs.proofs.ClassesLemmas.{all_append, all_filter, all_filters, rows_below_all}
 use Rattle.gb_defs.proofs.SlotLemmas.{slot_eq_equiv}
 use Rattle.gb_paths.proofs.MemberLemmas.{all_members, some_members}
 
@@ -57,8 +57,7 @@ module _ (agree : ℕ → ℕ → Bool) (same : (i : ℕ) → agree i i ≡ true
         some = All-map (λ (group : ℕ × List ℕ). 0 < length group.1) one is (λ k d lt. (headed (get_or is k d) (all k d lt)).1);
       }
 
-  -- ---- rows that start a class: all of them, some, and lists of them joined
-
+  -- the first rows do
   starts : AllByRecursion Starts (firsts agree (rows_below n))
   unfolding firsts
   starts =
@@ -67,35 +66,22 @@ module _ (agree : ℕ → ℕ → Bool) (same : (i : ℕ) → agree i i ≡ true
       let passes = filter_passes (is_first agree rows) rows in
       recursion_from_All Starts (filter (is_first agree rows) rows) (λ k d lt. record { inside = below k d lt; first = passes k d lt })
 
-  some_start : (test : ℕ → Bool) → AllByRecursion Starts (filter test (firsts agree (rows_below n)))
-  some_start test =
-      let all = firsts agree (rows_below n) in
-      recursion_from_All Starts (filter test all) (All-filter test Starts all (All-from_recursion Starts all starts))
-
-  both_start : (xs ys : List ℕ) → AllByRecursion Starts xs → AllByRecursion Starts ys → AllByRecursion Starts (xs ++ ys)
-  both_start [] ys front back = back
-  both_start (x ∷ xs) ys front back = (front.0, both_start xs ys front.1 back)
-
-  each_start : (test : ℕ → ℕ → Bool) (ps : List ℕ) → AllByRecursion Starts (flat_map (λ p. filter (test p) (firsts agree (rows_below n))) ps)
-  each_start test [] = tt
-  each_start test (p ∷ ps) = both_start _ _ (some_start (test p)) (each_start test ps)
-
   groups_formed : IsWellFormed n (groups agree (rows_below n))
   unfolding groups
   groups_formed = well_formed (firsts agree (rows_below n)) starts
 
   partitions_formed : (hash : ℕ → ℕ) (m : ℕ) → IsWellFormed n (partition_groups agree hash m (rows_below n))
   unfolding partition_groups by_partition
-  partitions_formed hash m = well_formed _ (each_start (in_partition hash m) (range_with_len 0 m))
+  partitions_formed hash m = well_formed _ (all_filters Starts (in_partition hash m) _ starts (range_with_len 0 m))
 
 pub path_formed : (path : Path) (rows : Rows) (codes n : ℕ) (sorted : Bool) → IsWellFormed rows.count (path_groups path rows codes n sorted).pairs
 path_formed path rows codes n sorted =
     let agree = same_slot_at rows.slot in
     let same : (i : ℕ) → agree i i ≡ true = λ i. slot_eq_equiv.refl (rows.slot i) in
     let by_first : IsWellFormed rows.count (groups agree (rows_below rows.count)) = groups_formed agree same rows.count in
-    let firsts_of = firsts agree (rows_below rows.count) in
-    let by_codes = well_formed agree same rows.count _ (both_start agree same rows.count _ _
-    (each_start agree same rows.count (λ code i. slot_eq (rows.slot i) (Num (pos code))) (range_with_len 0 codes)) (some_start agree same rows.count (λ i. is_nil (rows.slot i)))) in
+    let start = starts agree same rows.count in
+    let by_codes = well_formed agree same rows.count _ (all_append _ _ _
+    (all_filters _ (λ code i. slot_eq (rows.slot i) (Num (pos code))) _ start (range_with_len 0 codes)) (all_filter _ (λ i. is_nil (rows.slot i)) _ start)) in
     elim path as (λ p. IsWellFormed rows.count (path_groups p rows codes n sorted).pairs) [
       | Nulls ↦ by_first
       | Sorted ↦ by_first

@@ -1,5 +1,5 @@
 -- The hashes of rows that follow each other, and lists of rows that have them.
-use Rattle.std.proofs.Common.{◌≡◌, ℕ, ◌+◌, ◌<◌, ◌≤◌, List, length, get_or, map, take, drop, ◌∙◌, ap, sym, arith, zero-add}
+use Rattle.std.proofs.Common.{◌≡◌, ℕ, ◌+◌, ◌-◌, ◌<◌, ◌≤◌, List, length, get_or, map, take, drop, ◌∙◌, ap, sym, arith}
 use Rattle.std.specs.List.{range_with_len}
 use Rattle.std.proofs.lemmas.List.{drop-map, get_or-map, length-map}
 use Rattle.std.proofs.lemmas.List.Elements.{All-drop, All-take}
@@ -24,12 +24,15 @@ hashed_from rows start n hashes within e =
 pub all_hashed : (rows : Rows) (hashes : List ℕ) → AreHashes rows 0 hashes → length hashes ≡ rows.count → hashes ≡ map rows.hash (rows_below rows.count)
 all_hashed rows hashes h long = h.are ∙ ap (λ n. map rows.hash (rows_below n)) long
 
--- the hash of a row among those from row 0 on
-pub hash_of_row : (rows : Rows) (hashes : List ℕ) (row : ℕ) → AreHashes rows 0 hashes → row < length hashes → get_or hashes row 0 ≡ rows.hash row
-hash_of_row rows hashes row h lt =
+-- the hash of a row among those from `start` on
+pub hash_of_row : (rows : Rows) (start : ℕ) (hashes : List ℕ) (row : ℕ) → AreHashes rows start hashes → start ≤ row → row < start + length hashes → get_or hashes (row - start) 0 ≡ rows.hash row
+hash_of_row rows start hashes row h low high =
     let count = length hashes in
-    let inside : row < length (rows_below count) = omega (arith, length-range_with_len 0 count, lt) in
-    ap (λ hs. get_or hs row 0) h.are ∙ get_or-map rows.hash (rows_below count) row 0 0 inside ∙ ap rows.hash (get_or-range_with_len 0 count row 0 lt ∙ zero-add row)
+    let lt : row - start < count = omega (arith, low, high) in
+    let inside : row - start < length (range_with_len start count) = omega (arith, length-range_with_len start count, lt) in
+    let back : start + (row - start) ≡ row = omega (arith, low) in
+    ap (λ hs. get_or hs (row - start) 0) h.are ∙ get_or-map rows.hash (range_with_len start count) (row - start) 0 0 inside
+    ∙ ap rows.hash (get_or-range_with_len start count (row - start) 0 lt ∙ back)
 
 -- ---- the front and the back of some lists
 

@@ -1,11 +1,11 @@
 -- The groups of partitions, united, and in the order of their first rows.
-use Rattle.std.proofs.Common.{◌≡◌, ℕ, ◌<◌, Bool, true, false, not, ◌&&◌, List, [], ◌∷◌, ◌++◌, length, get_or, map, filter, refl, sym, ◌∙◌, ap, arith, nat_cmp, is_lt, inl, inr}
+use Rattle.std.proofs.Common.{◌≡◌, ℕ, ◌<◌, Bool, true, false, not, ◌&&◌, List, [], ◌∷◌, length, get_or, map, filter, refl, sym, ◌∙◌, ap, arith, nat_cmp, is_lt, inl, inr}
 use Rattle.std.specs.List.{flat_map, range_with_len, AllByRecursion}
 use Rattle.std.specs.List.Sorted.{IsNonDecreasing, IsNonDecreasingBy}
 use Rattle.std.proofs.lemmas.Bool.{cases_Bool}
 use Rattle.std.proofs.lemmas.Bool.Decides.{nat_tests}
 use Rattle.std.proofs.lemmas.Simd.{map-map}
-use Rattle.std.proofs.lemmas.List.{get_or-map, length-map, map-append}
+use Rattle.std.proofs.lemmas.List.{get_or-map, length-map}
 use Rattle.std.proofs.lemmas.List.Elements.{All-filter, All-from_recursion, recursion_from_All}
 use Rattle.std.proofs.lemmas.List.Sorted.{IsNonDecreasingBy-from_sort}
 use Rattle.smallvec.specs.SmallVec.{SmallVec}
@@ -14,17 +14,13 @@ use Rattle.gb_defs.specs.Groups.{Grouping, Idx, first_of, idx_groups}
 use Rattle.gb_defs.specs.Hash.{partition_of}
 use Rattle.gb_defs.specs.Partitions.{by_partition, in_partition, partition_groups}
 use Rattle.gb_defs.proofs.ClassesLemmas.{firsts_ascend}
-use Rattle.gb_defs.proofs.PartitionLemmas.{partitions_united, picked_once}
+use Rattle.gb_defs.proofs.PartitionLemmas.{map_flat_map, partitions_united, picked_once}
 use Rattle.gb_groups.specs.Groups.{pairs_of}
 use Rattle.gb_groups.specs.Order.{IsByFirst}
 use Rattle.gb_groups.proofs.OnceLemmas.{once}
 use Rattle.gb_paths.specs.Partitions.{rows_by_partition}
 
 -- ---- united
-
-pub map_flat : {A B C : Type 0} (f : B → C) (g : A → List B) (xs : List A) → map f (flat_map g xs) ≡ flat_map (λ x. map f (g x)) xs
-map_flat f g [] = refl
-map_flat f g (x ∷ xs) = map-append f (g x) (flat_map g xs) ∙ ap (λ ys. map f (g x) ++ ys) (map_flat f g xs)
 
 flat_by : {A B C : Type 0} (f : A → List C) (g : B → List C) (xs : List A) (ys : List B) → map f xs ≡ map g ys → flat_map f xs ≡ flat_map g ys
 flat_by f g [] [] e = refl
@@ -40,7 +36,7 @@ module _ (agree : ℕ → ℕ → Bool) (hash : ℕ → ℕ) (n count : ℕ) whe
       map (λ part. pairs_of (items_of part)) parts ≡ map (groups agree) lists → lists ≡ rows_by_partition hash n (rows_below count) →
       pairs_of (flat_map items_of parts) ≡ partition_groups agree hash n (rows_below count)
   united items_of parts lists alike each split =
-      map_flat _ items_of parts
+      map_flat_map _ items_of parts
       ∙ flat_by (λ part. pairs_of (items_of part)) (λ p. groups agree (filter (in_partition hash n p) (rows_below count))) parts (range_with_len 0 n)
       (each ∙ ap (map (groups agree)) split ∙ map-map (groups agree) (λ p. filter (in_partition hash n p) (rows_below count)) (range_with_len 0 n))
       ∙ partitions_united agree hash n count alike

@@ -1,12 +1,18 @@
 -- Groups in the order of their first rows, whatever the path.
-use Rattle.std.proofs.Common.{◌≡◌, ℕ, Bool, true, length, refl}
+use Rattle.std.proofs.Common.{◌≡◌, ℕ, Bool, true, length, refl, sym, ◌∙◌, ap}
 use Rattle.gb_defs.specs.Column.{ColumnValue}
 use Rattle.gb_defs.specs.Classes.{groups, rows_below, same_slot}
-use Rattle.gb_defs.specs.Rows.{Rows, same_slot_at}
-use Rattle.gb_defs.specs.Path.{Path, Nulls, Sorted, Perfect, Table, Threaded, code_count, path_groups}
-use Rattle.gb_cols.specs.Pool.{partitions_of}
+use Rattle.gb_defs.specs.Rows.{Rows, StandsFor, same_slot_at}
+use Rattle.gb_defs.specs.Path.{Path, Nulls, Sorted, Perfect, Table, Threaded, code_count, hashed_path, path_groups}
+use Rattle.gb_defs.proofs.PathLemmas.{path_groups_alike}
+use Rattle.gb_cols.specs.Pool.{partitions_of, seed_of, threshold_of, workers_of}
 use Rattle.gb_cols.specs.declared.pool.Pool.{Pool}
-use Rattle.gb_paths.specs.Tuples.{column_path, column_rows, tuples_of}
+use Rattle.gb_paths.specs.Keys.{StandFor, are_bytes, rows_of_keys}
+use Rattle.gb_paths.specs.Tuples.{column_path, column_rows, path_value, tuples_of}
+use Rattle.gb_paths.specs.declared.keys.Keys.{Keys}
+use Rattle.gb_paths.specs.declared.keys.Keys.TheVariants.{Words, Wide, Texts, Bytes}
+use Rattle.gb_paths.specs.declared.path.Path as declared
+use Rattle.gb_paths.specs.declared.path.Path.TheVariants as way
 
 sorted_path : (path : Path) (rows : Rows) (codes n : ℕ) → (path_groups path rows codes n true).pairs ≡ groups (same_slot_at rows.slot) (rows_below rows.count)
 sorted_path Nulls rows codes n = refl
@@ -17,3 +23,24 @@ sorted_path Threaded rows codes n = refl
 
 pub sorted_tuples : (column : ColumnValue) (multithreaded : Bool) (pool : Pool) → (tuples_of column multithreaded true pool).pairs ≡ groups (same_slot column.slots) (rows_below (length column.slots))
 sorted_tuples column multithreaded pool = sorted_path (column_path column multithreaded pool) (column_rows column pool) (code_count column.dtype) (partitions_of pool)
+
+-- rows that stand for others have their groups by one table and by partitions, however many codes there are
+stood_groups : (path : declared.Path) (own rows : Rows) → StandsFor own rows → (codes n : ℕ) (sorted : Bool) →
+    path_groups (path_value path) rows 0 n sorted ≡ path_groups (path_value path) own codes n sorted
+stood_groups way.Table own rows stand codes n sorted = sym (path_groups_alike own rows stand codes n Table sorted tt)
+stood_groups way.Threaded own rows stand codes n sorted = sym (path_groups_alike own rows stand codes n Threaded sorted tt)
+
+-- the path of keys is that of the column for which they stand
+stood_path : (column : ColumnValue) (keys : Keys) (multithreaded : Bool) (pool : Pool) → StandFor column keys →
+    hashed_path (are_bytes keys) (length column.slots) multithreaded (workers_of pool) (threshold_of pool) ≡ column_path column multithreaded pool
+stood_path column (Words words) multithreaded pool stand = rw stand.kind refl
+stood_path column (Wide words) multithreaded pool stand = rw stand.kind refl
+stood_path column (Texts texts) multithreaded pool stand = rw stand.kind refl
+stood_path column (Bytes bytes) multithreaded pool stand = rw stand.kind refl
+
+pub tuples_stand : (column : ColumnValue) (keys : Keys) (multithreaded sorted : Bool) (pool : Pool) (path : declared.Path) → StandFor column keys →
+    path_value path ≡ hashed_path (are_bytes keys) (length column.slots) multithreaded (workers_of pool) (threshold_of pool) →
+    path_groups (path_value path) (rows_of_keys (seed_of pool) keys) 0 (partitions_of pool) sorted ≡ tuples_of column multithreaded sorted pool
+tuples_stand column keys multithreaded sorted pool path stand chosen =
+    stood_groups path (column_rows column pool) (rows_of_keys (seed_of pool) keys) (stand.rows (seed_of pool)) (code_count column.dtype) (partitions_of pool) sorted
+    ∙ ap (λ p. path_groups p (column_rows column pool) (code_count column.dtype) (partitions_of pool) sorted) (chosen ∙ stood_path column keys multithreaded pool stand)

@@ -3,6 +3,7 @@ use Rattle.std.specs.Prelude.{◌≡◌, ℕ, ◌≤◌, ◌==◌, List, [], ◌
 use Rattle.std.specs.List.{range_with_len}
 use Rattle.gb_defs.specs.Classes.{groups}
 use Rattle.gb_defs.specs.Rows.{Rows, same_slot_at}
+use Rattle.gb_defs.specs.Slot.{Slot}
 use Rattle.smallvec.specs.SmallVec.{SmallVec}
 
 -- the groups of some of the rows
@@ -22,6 +23,11 @@ lists_by rows numbers groups = map (rows_of rows numbers) (range_with_len 0 grou
 -- each group's first row, with the rows of its number
 abbrev pub pairs_by : List ℕ → List ℕ → List ℕ → List (ℕ × List ℕ)
 pairs_by rows numbers first = zip first (lists_by rows numbers (length first))
+
+-- a table's entries are, in order, the keys and the hashes of these rows
+pub record AreEntries {K : Type 0} (key_slot : K → Slot) (rows : Rows) (first : List ℕ) (entries : List (K × ℕ)) : Type 0 where
+  pub keys : map (λ e. key_slot e.0) entries ≡ map rows.slot first
+  pub hashes : map (λ e. e.1) entries ≡ map rows.hash first
 
 -- how many rows have number k
 abbrev pub count_of : List ℕ → ℕ → ℕ

@@ -6,7 +6,7 @@ ghost use Rattle.std.specs.List.Sorted.{IsNonDecreasing};
 ghost use Rattle.gb_defs.specs.Groups.{AreMembers, HasRowNumbers};
 ghost use Rattle.gb_defs.specs.Rows.{AreHashes};
 ghost use Rattle.gb_cols.specs.PlSmallStr.{IsNoMemory};
-ghost use Rattle.gb_paths.specs.Numbers.{groups_among, pairs_by};
+ghost use Rattle.gb_paths.specs.Numbers.{AreEntries, groups_among, pairs_by};
 
 use gb_cols::error::PolarsResult;
 use gb_cols::nullable_idx::IdxSize;
@@ -16,28 +16,34 @@ use gb_hash::steps::Steps;
 use std::alloc::Global;
 use std::sync::ledger::Ledger;
 
-/// The first row of each group, and the number of each row's group.
+/// The first row of each group, and the number of each row's group. The table tells a group's number by
+/// its key.
 #[derive(Drop)]
-pub struct GroupNumbers {
+pub struct GroupNumbers<K> {
+    pub table: GroupTable<K>,
     pub first: Vec<IdxSize>,
     pub of_rows: Vec<u32>,
 }
 
 /// Numbers the groups of some of the rows by one table, in one step a row. The hashes are those of the
-/// rows from the first on.
+/// rows from `start` on.
 pub fn number_groups<R: KeyRows, L: Ledger>(
     alloc: Global,
     rows: &R,
     members: &[IdxSize],
+    start: usize,
     hashes: &[u64],
     steps: &mut Steps<L>,
-) -> PolarsResult<GroupNumbers>
+) -> PolarsResult<GroupNumbers<R::Key>>
     requires few { HasRowNumbers (R.rows rows.now).count }
-    requires members { AreMembers (length hashes.now) members.now }
-    requires hashes { AreHashes (R.rows rows.now) 0 hashes.now }
+    requires members { AreMembers (start + length hashes.now) members.now }
+    requires from { All (λ row. start ≤ row) members.now }
+    requires hashes { AreHashes (R.rows rows.now) start hashes.now }
     ensures classes { IfOk result (λ found.
         pairs_by members.now found.of_rows.items found.first.items
         ≡ groups_among (R.rows rows.now) members.now) }
+    ensures entries { IfOk result (λ found.
+        AreEntries R.key_slot (R.rows rows.now) found.first.items found.table) }
     ensures ascend { IfOk result (λ found. IsNonDecreasing found.first.items) }
     ensures known { IfOk result (λ found.
         All (λ number. number < length found.first.items) found.of_rows.items) }
@@ -51,11 +57,15 @@ pub fn number_groups<R: KeyRows, L: Ledger>(
     let mut of_rows = Vec::with_capacity(alloc, members.len())?;
     for row in members {
         let key = rows.key_at(*row as usize, steps);
-        let number = table.number_of(key, hashes[*row as usize])?;
+        let number = table.number_of(key, hashes[*row as usize - start])?;
         if number as usize == first.len() {
             first.push(*row)?;
         }
         of_rows.push_reserved(number);
     }
-    Ok(GroupNumbers { first, of_rows })
+    Ok(GroupNumbers {
+        table,
+        first,
+        of_rows,
+    })
 }

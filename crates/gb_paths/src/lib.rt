@@ -7,6 +7,7 @@ mod all_rows;
 pub mod group_by;
 mod group_numbers;
 pub mod into_groups;
+pub mod keys;
 mod partitions;
 mod path;
 mod row_groups;

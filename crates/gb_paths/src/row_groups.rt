@@ -45,7 +45,7 @@ pub fn group_members<R: KeyRows, L: Ledger>(
     ensures steps { OnOk result (steps.new ≡ steps.old + length members.now) }
     ensures steps_at_most { steps.new ≤ steps.old + length members.now }
 {
-    let found = number_groups(alloc, rows, members, hashes, steps)?;
+    let found = number_groups(alloc, rows, members, 0, hashes, steps)?;
     let groups = found.first.len();
     let all = row_lists(alloc, members, found.of_rows.as_slice(), groups)?;
     Ok(RowGroups {

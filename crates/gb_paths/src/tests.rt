@@ -14,6 +14,7 @@ use gb_cols::error::PolarsResult;
 use gb_cols::memory::FreeGate;
 use gb_cols::nullable_idx::IdxSize;
 use gb_cols::pool::Pool;
+use gb_cols::series_trait::SeriesTrait;
 use gb_cols::small_str::PlSmallStr;
 use gb_groups::groups_type::GroupsType;
 use gb_hash::mixer::{Mixer, SeedMixer};

@@ -10,6 +10,7 @@ ghost use Rattle.gb_cols.specs.PolarsError.{Explains};
 use crate::series::{Column, Series};
 use gb_cols::error::{PolarsError, PolarsResult};
 use gb_cols::nullable_idx::IdxSize;
+use gb_cols::series_trait::SeriesTrait;
 use gb_cols::small_str::PlSmallStr;
 use std::marker::Model;
 

@@ -5,7 +5,9 @@ use crate::series::{IntoSeries, Series};
 use gb_cols::chunked::{Int64Chunked, StringChunked, UInt32Chunked};
 use gb_cols::data_type::DataType;
 use gb_cols::error::{PolarsError, PolarsResult};
+use gb_cols::series_trait::SeriesTrait;
 use gb_cols::small_str::PlSmallStr;
+use gb_cols::sorted::IsSorted;
 use std::alloc::Global;
 use std::test::Fail;
 
@@ -70,5 +72,16 @@ fn columns_of_each_type(rt: HostRuntime) -> Result<(), Fail> {
         (column.dtype()?, column.len(), column.null_count()),
         (DataType::UInt32, 2, 1)
     );
+    Ok(())
+}
+
+#[test]
+fn a_null_more(rt: HostRuntime) -> Result<(), Fail> {
+    let mut column = numbers(rt.alloc(), "a", &[7])?;
+    assert_eq!(rt; column.len(), 1);
+    column.push_null()?;
+    assert_eq!(rt; column.len(), 2);
+    assert_eq!(rt; (column.is_valid(0), column.is_valid(1)), (true, false));
+    assert_eq!(rt; column.is_sorted_flag(), IsSorted::Not);
     Ok(())
 }

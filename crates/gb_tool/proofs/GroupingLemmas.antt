@@ -1,50 +1,39 @@
 -- What a grouping comes to, by keys that its frame has.
-use Rattle.std.proofs.Common.{◌≡◌, ℕ, ◌<◌, ◌≤◌, ◌^◌, Bool, true, false, List, [], ◌∷◌, Option, Some, None, Result, Ok, Err, length, map, slice_index_or, refl, sym, ◌∙◌, ap, subst, arith, All, eq-eqb}
-use Rattle.std.specs.List.{list_any}
+use Rattle.std.proofs.Common.{◌≡◌, ℕ, ◌<◌, ◌≤◌, Bool, true, List, [], ◌∷◌, Option, Some, None, Result, Ok, Err, length, map, refl, sym, ◌∙◌, ap, subst, arith, All, eq-eqb}
 use Rattle.std.specs.Option.{option_or}
 use Rattle.std.specs.Result.{result_err}
 use Rattle.std.proofs.lemmas.List.{length-map}
-use Rattle.std.proofs.lemmas.List.Elements.{All-filter, All-from_recursion, All-from_get_or, All-map}
-use Rattle.std.proofs.lemmas.List.Sums.{length-filter, count_by-le-length}
-use Rattle.std.proofs.lemmas.List.FromFn.{length-range_with_len}
+use Rattle.std.proofs.lemmas.List.Elements.{All-map}
 use Rattle.std.proofs.lemmas.Bool.{le-ltb}
 use Rattle.gb_defs.specs.Column.{ColumnValue, Frame, IsFrame, all_have_length, content, find_column, first_repeated, frame_height}
 use Rattle.gb_defs.specs.Classes.{agree_by, class, firsts, groups, rows_below, same_slot}
 use Rattle.gb_defs.specs.Fold.{Method}
-use Rattle.gb_defs.specs.Groups.{AreMembers, HasRowNumbers, IsWellFormed, first_of, rows_of_pair}
+use Rattle.gb_defs.specs.Groups.{AreMembers, Grouping, HasRowNumbers, IsWellFormed, first_of, lists_in, rows_of_pair}
 use Rattle.gb_defs.specs.Answer.{agree_of, answer_names, height_of, kept_rows}
-use Rattle.gb_defs.specs.Fault.{Fault, duplicate_of, fault, keyless_fault, missing_fault, rows_fault, shape_fault, unfit_fault}
+use Rattle.gb_defs.specs.Fault.{Fault, duplicate_of, fault, missing_fault, rows_fault, shape_fault, unfit_fault}
 use Rattle.gb_defs.specs.Outcome.{column_onto, find_columns, grouped}
 use Rattle.gb_defs.proofs.AnswerLemmas.{AreHigh, agree_high, agree_one, answer_high, answered, faulty, groups_firsts, groups_lists}
 use Rattle.gb_defs.proofs.ClassesLemmas.{firsts_few}
 use Rattle.gb_cols.specs.PolarsError.{IsCause}
 use Rattle.gb_series.specs.Frame.{frame_fault}
 use Rattle.gb_series.proofs.FrameLemmas.{found_long}
-use Rattle.gb_tool.specs.Grouping.{aggregates_over, answer_parts}
+use Rattle.gb_tool.specs.Grouping.{answer_parts, firsts_in}
 use Rattle.gb_tool.proofs.CauseLemmas.{cause_first}
 use Rattle.gb_tool.proofs.PartLemmas.{parts_fault}
 
 -- ---- first rows and row lists of groups
 
-lists_few : (agree : ℕ → ℕ → Bool) (n : ℕ) → length (map rows_of_pair (groups agree (rows_below n))) ≤ n
-lists_few agree n = rw (groups_lists agree (rows_below n), length-map (firsts agree (rows_below n)) (class agree (rows_below n))) (firsts_few agree n)
+pub groups_few : (agree : ℕ → ℕ → Bool) (n : ℕ) → length (groups agree (rows_below n)) ≤ n
+groups_few agree n =
+    let pairs = groups agree (rows_below n) in
+    rw (← length-map pairs rows_of_pair, groups_lists agree (rows_below n), length-map (firsts agree (rows_below n)) (class agree (rows_below n))) (firsts_few agree n)
 
 -- these are the first rows and the row lists of the groups of the rows below n
 pub record AreGroups (agree : ℕ → ℕ → Bool) (n : ℕ) (rows : List ℕ) (lists : List (List ℕ)) : Type 0 where
   pub first_rows : rows ≡ map first_of (groups agree (rows_below n))
   pub row_lists : lists ≡ map rows_of_pair (groups agree (rows_below n))
-  pub formed : IsWellFormed n (groups agree (rows_below n))
 
 module _ (agree : ℕ → ℕ → Bool) (n : ℕ) (rows : List ℕ) (lists : List (List ℕ)) (are : AreGroups agree n rows lists) where
-  pub rows_within : All (λ row. row < n) rows
-  rows_within = rw are.first_rows (All-map (λ row. row < n) first_of (groups agree (rows_below n)) (λ k d lt. (are.formed.fit k d lt).first))
-
-  pub rows_listed : All (AreMembers n) lists
-  rows_listed = rw are.row_lists (All-map (AreMembers n) rows_of_pair (groups agree (rows_below n)) (λ k d lt. (are.formed.fit k d lt).members))
-
-  pub groups_few : length lists ≤ n
-  groups_few = omega (arith, ap (λ (xs : List (List ℕ)). length xs) are.row_lists, lists_few agree n)
-
   as_many : length rows ≡ length lists
   as_many =
       let pairs = groups agree (rows_below n) in
@@ -120,9 +109,6 @@ module _ (frame : Frame) (whole : IsFrame frame) (name : List ℕ) (names : List
       module _ (fit : unfit_fault frame aggs ≡ None) (rows : List ℕ) (lists : List (List ℕ))
           (are : AreGroups (agree_by (map (λ key. key.slots) (key ∷ keys))) (height_of frame (key ∷ keys)) rows lists)
           (columns : Frame) (columns_are : map content columns ≡ answer_parts frame (key ∷ keys) aggs rows lists) where
-        agree : ℕ → ℕ → Bool
-        agree = agree_by (map (λ key. key.slots) (key ∷ keys))
-
         -- what the columns are refused for is the fault of the grouping
         fault_of_columns : fault frame (key ∷ keys) aggs ≡ frame_fault columns
         fault_of_columns = fault_named fit ∙ sym (parts_fault frame rows lists (as_many _ (height_of frame (key ∷ keys)) rows lists are) key keys aggs columns columns_are)
@@ -150,15 +136,35 @@ module _ (frame : Frame) (whole : IsFrame frame) (name : List ℕ) (names : List
             ∙ ap (λ lists. answer_parts frame (key ∷ keys) aggs rows lists) lists_are
             ∙ sym columns_are)
 
--- the groups of one key of the frame, from those of its slots
-pub are_groups : (frame : Frame) (key : ColumnValue) (pairs : List (ℕ × List ℕ)) (rows : List ℕ) (lists : List (List ℕ)) →
-    length key.slots ≡ height_of frame (key ∷ []) → pairs ≡ groups (same_slot key.slots) (rows_below (length key.slots)) → IsWellFormed (length key.slots) pairs →
-    rows ≡ map first_of pairs → lists ≡ map rows_of_pair pairs → AreGroups (agree_by (key.slots ∷ [])) (height_of frame (key ∷ [])) rows lists
-are_groups frame key pairs rows lists high e formed firsts_are lists_are =
-    let here : pairs ≡ groups (agree_by (key.slots ∷ [])) (rows_below (height_of frame (key ∷ []))) =
-    e ∙ ap (λ (a : ℕ → ℕ → Bool). groups a (rows_below (length key.slots))) (sym (agree_one key.slots)) ∙ ap (λ n. groups (agree_by (key.slots ∷ [])) (rows_below n)) high in
-    record {
-      first_rows = firsts_are ∙ ap (map first_of) here;
-      row_lists = lists_are ∙ ap (map rows_of_pair) here;
-      formed = rw (← here, ← high) formed;
-    }
+-- ---- the groups of one key of the frame
+
+module _ (frame : Frame) (whole : IsFrame frame) (name : List ℕ) (key : ColumnValue) (there : find_column frame name ≡ Some key) where
+  pub key_long : length key.slots ≡ frame_height frame
+  key_long = found_long (frame_height frame) frame name key whole.aligned there
+
+  module _ (g : Grouping) (are : g.pairs ≡ groups (same_slot key.slots) (rows_below (length key.slots))) where
+    pub key_few : HasRowNumbers (frame_height frame) → HasRowNumbers (length g.pairs)
+    key_few short = omega (arith, ap (λ (pairs : List (ℕ × List ℕ)). length pairs) are, groups_few (same_slot key.slots) (length key.slots), key_long, short)
+
+    key_grouped : AreGroups (agree_by (key.slots ∷ [])) (height_of frame (key ∷ [])) (firsts_in g) (lists_in g)
+    key_grouped =
+        let high : length key.slots ≡ height_of frame (key ∷ []) = key_long ∙ sym (height_same frame name [] (key ∷ []) (one_found frame name key there)) in
+        let here : g.pairs ≡ groups (agree_by (key.slots ∷ [])) (rows_below (height_of frame (key ∷ []))) =
+        are ∙ ap (λ (a : ℕ → ℕ → Bool). groups a (rows_below (length key.slots))) (sym (agree_one key.slots)) ∙ ap (λ n. groups (agree_by (key.slots ∷ [])) (rows_below n)) high in
+        record { first_rows = ap (map first_of) here; row_lists = ap (map rows_of_pair) here }
+
+    module _ (formed : IsWellFormed (length key.slots) g.pairs) where
+      pub key_firsts : All (λ row. row < length key.slots) (firsts_in g)
+      key_firsts = All-map (λ row. row < length key.slots) first_of g.pairs (λ k d lt. (formed.fit k d lt).first)
+
+      pub key_lists : All (AreMembers (frame_height frame)) (lists_in g)
+      key_lists = rw (← key_long) (All-map (AreMembers (length key.slots)) rows_of_pair g.pairs (λ k d lt. (formed.fit k d lt).members))
+
+    -- the columns over them are the answer, or are refused as it is
+    module _ (aggs : List (List ℕ × Method)) (short : HasRowNumbers (frame_height frame)) (held : missing_fault frame aggs ≡ None) (fit : unfit_fault frame aggs ≡ None)
+        (columns : Frame) (columns_are : map content columns ≡ answer_parts frame (key ∷ []) aggs (firsts_in g) (lists_in g)) where
+      pub key_answer : frame_fault columns ≡ None → grouped frame (name ∷ []) aggs ≡ Ok (map content columns)
+      key_answer = grouped_columns frame whole name [] key [] (one_found frame name key there) aggs short held fit (firsts_in g) (lists_in g) key_grouped columns columns_are
+
+      pub key_refused : (known : Option Fault) → IsCause known (frame_fault columns) → IsCause known (result_err (grouped frame (name ∷ []) aggs))
+      key_refused = refused_frame frame whole name [] key [] (one_found frame name key there) aggs short held fit (firsts_in g) (lists_in g) key_grouped columns columns_are

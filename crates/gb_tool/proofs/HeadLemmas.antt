@@ -11,28 +11,39 @@ use Rattle.std.specs.Cmp.Lexicographic.{bytes_decides}
 use Rattle.std.proofs.lemmas.Bool.{cases_Bool, ne_eqb, eq-eqb, false_from_ne_true, and_parts}
 use Rattle.std.proofs.lemmas.List.Sums.{suffix_len_is}
 use Rattle.std.proofs.lemmas.Str.Pattern.{NoCharPasses-char}
-use Rattle.gb_defs.specs.ColumnType.{FlatType, ColumnType, Flat, int64, text}
+use Rattle.gb_defs.specs.ColumnType.{FlatType, ColumnType, Flat, text}
 use Rattle.gb_defs.specs.Cell.{is_read_flat}
 use Rattle.gb_defs.specs.TypeWord.{type_words, word_among, type_of_word}
 use Rattle.gb_defs.specs.Table.{is_colon, Head, head_of, head_by_word}
-use Rattle.gb_tool.specs.Head.{readable_head, unread_words}
+use Rattle.gb_tool.specs.Head.{readable_head, read_flat, read_type, unread_words}
 
 -- ---- words
 
--- a type that is read has one of the two words
+-- the words of the types that are read
+abbrev pub read_words : List (List ℕ)
+read_words =
+    codes "u8" ∷ codes "u16" ∷ codes "u32" ∷ codes "u64" ∷ codes "i8" ∷ codes "i16" ∷ codes "i32" ∷ codes "i64" ∷ codes "i128" ∷ codes "str" ∷ []
+
+-- a type that is read has one of them
 abbrev fits_word : List ℕ × FlatType → Bool
-fits_word w = not (is_read_flat w.1) || bytes_eq w.0 (codes "i64") || bytes_eq w.0 (codes "str")
+fits_word w = not (is_read_flat w.1) || list_any (bytes_eq w.0) read_words
 
-read_word : (w : List ℕ × FlatType) → fits_word w ≡ true → w.0 ≢ codes "i64" → w.0 ≢ codes "str" → is_read_flat w.1 ≡ false
-read_word w fits n m =
-    let i = false_from_ne_true (bytes_eq w.0 (codes "i64")) (λ e. n ((bytes_decides w.0 (codes "i64")).0 e)) in
-    let s = false_from_ne_true (bytes_eq w.0 (codes "str")) (λ e. m ((bytes_decides w.0 (codes "str")).0 e)) in
-    elim (cases_Bool (is_read_flat w.1)) [
-      | inl h ↦ let bad = rw (h, i, s) at fits in cc
-      | inr h ↦ h
-    ]
+pub apart : (word other : List ℕ) → word ≢ other → bytes_eq word other ≡ false
+apart word other n = false_from_ne_true (bytes_eq word other) (λ e. n ((bytes_decides word other).0 e))
 
--- what the words say of a word that is neither of the two
+read_word : (w : List ℕ × FlatType) → fits_word w ≡ true → list_any (bytes_eq w.0) read_words ≡ false → is_read_flat w.1 ≡ false
+read_word w fits other = elim (cases_Bool (is_read_flat w.1)) [
+  | inl h ↦ let bad = rw (h, other) at fits in cc
+  | inr h ↦ h
+]
+
+not_read : (t : FlatType) → None ≡ read_flat (Some t) → is_read_flat t ≡ false
+not_read t e = elim (cases_Bool (is_read_flat t)) [
+  | inl h ↦ let bad = rw h at e in cc
+  | inr h ↦ h
+]
+
+-- what the words say of a word that is none of them
 abbrev Tells : List (List ℕ × FlatType) → List ℕ → Option FlatType → Type 0
 Tells ws word o = MatchOption o (list_any (λ known. bytes_eq known word) (unread_words ws) ≡ false)
     (λ t. (is_read_flat t ≡ false) × (list_any (λ known. bytes_eq known word) (unread_words ws) ≡ true))
@@ -49,23 +60,44 @@ other_word : (w : List ℕ × FlatType) (ws : List (List ℕ × FlatType)) (word
 other_word w ws word None h t = any_other (is_read_flat w.1) w.0 (unread_words ws) word h ∙ t
 other_word w ws word (Some f) h t = (t.0, any_other (is_read_flat w.1) w.0 (unread_words ws) word h ∙ t.1)
 
-words_tell : (ws : List (List ℕ × FlatType)) (word : List ℕ) → list_all fits_word ws ≡ true → word ≢ codes "i64" → word ≢ codes "str" → Tells ws word (word_among ws word)
-words_tell [] word fits n m = refl
-words_tell (w ∷ ws) word fits n m =
+words_tell : (ws : List (List ℕ × FlatType)) (word : List ℕ) → list_all fits_word ws ≡ true → list_any (bytes_eq word) read_words ≡ false → Tells ws word (word_among ws word)
+words_tell [] word fits other = refl
+words_tell (w ∷ ws) word fits other =
     let f = and_parts (fits_word w) (list_all fits_word ws) fits in
-    let rest = words_tell ws word f.1 n m in
+    let rest = words_tell ws word f.1 other in
     elim (cases_Bool (bytes_eq word w.0)) [
       | inl e ↦
           let same = (bytes_decides word w.0).0 e in
-          let unread = read_word w f.0 (λ h. n (same ∙ h)) (λ h. m (same ∙ h)) in
+          let unread = read_word w f.0 (ap (λ v. list_any (bytes_eq v) read_words) (sym same) ∙ other) in
           let here = (bytes_decides w.0 word).1 (sym same) in
           rw (e, unread, here) (refl, refl)
       | inr e ↦ rw e (other_word w ws word (word_among ws word) (word_turned word w.0 e) rest)
     ]
 
-pub type_word_tells : (word : List ℕ) → word ≢ codes "i64" → word ≢ codes "str" → Tells type_words word (type_of_word word)
+type_word_tells : (word : List ℕ) → list_any (bytes_eq word) read_words ≡ false → Tells type_words word (type_of_word word)
 unfolding type_words digits
-type_word_tells word n m = words_tell type_words word refl n m
+type_word_tells word other = words_tell type_words word refl other
+
+unread_type : (word : List ℕ) (o : Option FlatType) → Tells type_words word o → None ≡ read_flat o
+unread_type word None t = refl
+unread_type word (Some t) tells = rw tells.0
+
+pub no_read_type : (word : List ℕ) → list_any (bytes_eq word) read_words ≡ false → None ≡ read_type word
+no_read_type word other = unread_type word (type_of_word word) (type_word_tells word other)
+
+-- what the words say of a word whose type is not read
+unread_tells : (ws : List (List ℕ × FlatType)) (word : List ℕ) → None ≡ read_flat (word_among ws word) → Tells ws word (word_among ws word)
+unread_tells [] word e = refl
+unread_tells (w ∷ ws) word e = elim (cases_Bool (bytes_eq word w.0)) [
+  | inl same ↦
+      let type : None ≡ read_flat (Some w.1) = rw same at e in
+      let unread : is_read_flat w.1 ≡ false = not_read w.1 type in
+      let here = (bytes_decides w.0 word).1 (sym ((bytes_decides word w.0).0 same)) in
+      rw (same, unread, here) (refl, refl)
+  | inr differs ↦
+      let rest : None ≡ read_flat (word_among ws word) = rw differs at e in
+      rw differs (other_word w ws word (word_among ws word) (word_turned word w.0 differs) (unread_tells ws word rest))
+]
 
 -- ---- the colon
 
@@ -125,22 +157,24 @@ abbrev named : List ℕ → ColumnType → Head
 named name t = record { name = name; dtype = t }
 
 module _ (field name word : List ℕ) (cut : head_of field ≡ head_with field name (type_of_word word)) where
-  pub int64_head : word ≡ codes "i64" → readable_head (head_of field) ≡ Some (named name int64)
-  unfolding type_words
-  int64_head e = rw (cut, e)
+  read_head : (o : Option FlatType) (t : ColumnType) → Some t ≡ read_flat o → readable_head (head_with field name o) ≡ Some (named name t)
+  read_head None t e = cc
+  read_head (Some f) t e = elim (cases_Bool (is_read_flat f)) [
+    | inl h ↦ let same : t ≡ Flat f = (let given = rw h at e in cc) in rw (h, same)
+    | inr h ↦ let bad = rw h at e in cc
+  ]
 
-  pub text_head : word ≡ codes "str" → readable_head (head_of field) ≡ Some (named name text)
-  unfolding type_words
-  text_head e = rw (cut, e)
+  pub typed_head : (t : ColumnType) → Some t ≡ read_type word → readable_head (head_of field) ≡ Some (named name t)
+  typed_head t e = rw cut (read_head (type_of_word word) t e)
 
-  module _ (n : word ≢ codes "i64") (m : word ≢ codes "str") where
+  module _ (none : None ≡ read_type word) where
     by_word : (o : Option FlatType) → Tells type_words word o → (list_any (λ known. bytes_eq known word) (unread_words type_words) ≡ true → readable_head (head_with field name o) ≡ None)
         × (list_any (λ known. bytes_eq known word) (unread_words type_words) ≡ false → readable_head (head_with field name o) ≡ Some (named field text))
     by_word None t = (λ e. let bad : true ≡ false = sym e ∙ t in cc, λ e. refl)
     by_word (Some f) t = (λ e. rw t.0, λ e. let bad : true ≡ false = sym t.1 ∙ e in cc)
 
     pub unread_head : list_any (λ known. bytes_eq known word) (unread_words type_words) ≡ true → readable_head (head_of field) ≡ None
-    unread_head e = rw cut ((by_word (type_of_word word) (type_word_tells word n m)).0 e)
+    unread_head e = rw cut ((by_word (type_of_word word) (unread_tells type_words word none)).0 e)
 
     pub whole_head : list_any (λ known. bytes_eq known word) (unread_words type_words) ≡ false → readable_head (head_of field) ≡ Some (named field text)
-    whole_head e = rw cut ((by_word (type_of_word word) (type_word_tells word n m)).1 e)
+    whole_head e = rw cut ((by_word (type_of_word word) (unread_tells type_words word none)).1 e)

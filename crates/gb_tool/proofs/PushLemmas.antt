@@ -12,7 +12,8 @@ use Rattle.gb_defs.specs.Cell.{cell_slot}
 use Rattle.gb_defs.specs.Column.{ColumnValue, Frame, fresh_column}
 use Rattle.gb_defs.specs.Table.{TableFault, Ragged, BadCell, onto, cell_onto, cells_from}
 use Rattle.gb_cols.specs.Column.{pushed}
-use Rattle.gb_tool.specs.Table.{map_ok, column_with, columns_with, head_in, pushed_each}
+use Rattle.gb_cols.specs.Column.{column_with}
+use Rattle.gb_tool.specs.Table.{map_ok, columns_with, head_in, pushed_each}
 
 -- a push to a column in one chunk
 pub pushed_fresh : (name : List ℕ) (t : ColumnType) (slots : List Slot) (slot : Slot) → pushed (fresh_column name t slots) slot ≡ fresh_column name t (slots ++ slot ∷ [])

@@ -12,7 +12,8 @@ use Rattle.gb_defs.specs.Table.{TableFault, NoHeader, table}
 use Rattle.gb_defs.specs.Column.{IsFrame}
 use Rattle.gb_series.specs.declared.series.Series.{Series}
 use Rattle.gb_series.specs.Series.{value_of}
-use Rattle.gb_tool.specs.Table.{GivesRecords, HasRecordsOf, HasRoom, IsTyped, columns_with, columns_of_header, left_of}
+use Rattle.gb_cols.specs.Column.{HasRoom}
+use Rattle.gb_tool.specs.Table.{GivesRecords, HasRecordsOf, columns_with, columns_of_header, left_of}
 use Rattle.gb_tool.proofs.ReadingLemmas.{IsReading, no_header, header_bad, reading_header, reading_more, reading_bad, reading_end, reading_frame, reading_room}
 
 -- a reader of a builder that names no headers and is flexible
@@ -31,7 +32,6 @@ pub record IsTaking (null_word bytes : List ℕ) (row : ℕ) (columns : List Ser
   pub left : List ℕ
   pub source : source_of left_of reader ≡ Some left
   pub reading : IsReading null_word bytes row (map value_of columns) reader.state left
-  pub typed : All IsTyped columns
 
 pub room_of : (columns : List Series) → AllByRecursion HasRoom (map value_of columns) → AllByRecursion (λ column. HasRoom (value_of column)) columns
 room_of [] h = tt
@@ -54,13 +54,12 @@ module _ (null_word bytes : List ℕ) where
       pub taking_no_columns : (fault : TableFault) → columns_of_header header ≡ Err fault → table bytes null_word ≡ Err fault
       taking_no_columns fault e = header_bad null_word bytes header b.state reached.0 reached.2 fault e
 
-      pub taking_header : GivesRecords b → (columns : List Series) → columns_of_header header ≡ Ok (map value_of columns) → All IsTyped columns → IsTaking null_word bytes 1 columns b
-      taking_header goes columns e typed = record {
+      pub taking_header : GivesRecords b → (columns : List Series) → columns_of_header header ≡ Ok (map value_of columns) → IsTaking null_word bytes 1 columns b
+      taking_header goes columns e = record {
         gives = goes;
         left = reached.0;
         source = reached.1;
         reading = reading_header null_word bytes header (map value_of columns) b.state reached.0 reached.2 e;
-        typed = typed;
       }
 
   -- ---- the records below it
@@ -85,12 +84,11 @@ module _ (null_word bytes : List ℕ) where
         pub taking_bad : (fault : TableFault) → columns_with null_word row (map value_of columns) fields ≡ Err fault → table bytes null_word ≡ Err fault
         taking_bad fault e = reading_bad null_word bytes row (map value_of columns) a.state s.left s.reading fields b.state further.0 further.2 fault e
 
-        pub taking_more : GivesRecords b → (columns' : List Series) → columns_with null_word row (map value_of columns) fields ≡ Ok (map value_of columns') → All IsTyped columns'
+        pub taking_more : GivesRecords b → (columns' : List Series) → columns_with null_word row (map value_of columns) fields ≡ Ok (map value_of columns')
             → IsTaking null_word bytes (row + 1) columns' b
-        taking_more goes columns' e typed = record {
+        taking_more goes columns' e = record {
           gives = goes;
           left = further.0;
           source = further.1;
           reading = reading_more null_word bytes row (map value_of columns) a.state s.left s.reading fields (map value_of columns') b.state further.0 further.2 e;
-          typed = typed;
         }

@@ -1,9 +1,10 @@
 -- Folds over lists of rows.
-use Rattle.std.specs.Prelude.{ℕ, List, map, Option, None}
+use Rattle.std.specs.Prelude.{ℕ, List, length, map, All, Option, None}
 use Rattle.gb_defs.specs.Slot.{Slot}
 use Rattle.gb_defs.specs.ColumnType.{ColumnType}
 use Rattle.gb_defs.specs.Column.{ColumnValue, fresh_column}
-use Rattle.gb_defs.specs.Fold.{Method, fold_of}
+use Rattle.gb_defs.specs.Fold.{Method, fold_of, number_slot}
+use Rattle.gb_defs.specs.Groups.{AreMembers, Grouping, HasRowNumbers, lists_in}
 use Rattle.gb_defs.specs.Fault.{Fault, unfit_operation, unfit_or}
 use Rattle.gb_cols.specs.PlSmallStr.{name_of}
 use Rattle.gb_tool.specs.declared.request.Agg.{Agg}
@@ -12,6 +13,10 @@ use Rattle.gb_tool.specs.Request.{method_of}
 -- the fold of a column over a list of rows
 abbrev pub fold_in : Method → ColumnValue → List ℕ → Slot
 fold_in method c rows = fold_of method c.dtype c.slots rows
+
+-- how many rows there are
+abbrev pub rows_fold : List ℕ → Slot
+rows_fold rows = number_slot (length rows)
 
 -- a column of what is made of each list of rows
 abbrev pub fold_column : List ℕ → ColumnType → (List ℕ → Slot) → List (List ℕ) → ColumnValue
@@ -24,3 +29,8 @@ unfit_in name method c = unfit_or name (unfit_operation method c.dtype) None
 -- the same of an aggregate that is asked
 abbrev pub agg_unfit : Agg → ColumnValue → Option Fault
 agg_unfit agg c = unfit_in (name_of agg.column) (method_of agg.method) c
+
+-- the rows of the groups are rows of the column, and the groups have numbers
+pub record AreGroupsOf (c : ColumnValue) (groups : Grouping) : Type 0 where
+  pub rows : All (AreMembers (length c.slots)) (lists_in groups)
+  pub few : HasRowNumbers (length groups.pairs)

@@ -4,9 +4,14 @@ use Rattle.gb_defs.specs.Column.{ColumnValue, Content, Frame, content, find_colu
 use Rattle.gb_defs.specs.Fold.{Method}
 use Rattle.gb_defs.specs.Answer.{aggregated}
 use Rattle.gb_defs.specs.Fault.{Fault, unfit_at, unfit_or}
+use Rattle.gb_defs.specs.Groups.{Grouping, first_of}
 use Rattle.gb_cols.specs.PlSmallStr.{name_of}
 use Rattle.gb_tool.specs.declared.request.Agg.{Agg}
 use Rattle.gb_tool.specs.Request.{method_of}
+
+-- the first row of each group
+abbrev pub firsts_in : Grouping → List ℕ
+firsts_in g = map first_of g.pairs
 
 -- each aggregate over the rows of each group
 abbrev pub aggregates_over : Frame → List (List ℕ × Method) → List (List ℕ) → List Content

@@ -1,14 +1,10 @@
 -- How a table's text is taken up, record by record, and the fault of a record.
-use Rattle.std.specs.Prelude.{◌≡◌, ◌+◌, ◌^◌, ◌<◌, length, map, ℕ, Bool, true, List, [], ◌∷◌, Option, Some, None, option_map, if◌then◌else◌, Result, Ok, Err}
+use Rattle.std.specs.Prelude.{◌≡◌, map, ℕ, true, List, [], ◌∷◌, Option, Some, Result, Ok, Err}
 use denote.Ref.{Bor}
-use Rattle.gb_defs.specs.ColumnType.{int64, text}
 use Rattle.gb_defs.specs.Slot.{Slot}
 use Rattle.gb_defs.specs.Column.{ColumnValue, Frame}
-use Rattle.gb_defs.specs.Cell.{cell_slot}
 use Rattle.gb_defs.specs.Table.{TableFault, Head, heads_of, columns_from, record_slots}
 use Rattle.gb_cols.specs.Column.{pushed}
-use Rattle.gb_series.specs.declared.series.Series.{Series}
-use Rattle.gb_series.specs.declared.series.Series.TheVariants.{UInt32, Int64, String}
 use Rattle.csv.specs.declared.reader.Reader.{Reader}
 use Rattle.csv.specs.declared.reader.Trim.TheVariants as trim
 use Rattle.csv.specs.declared.parser.State.TheVariants as st
@@ -18,24 +14,6 @@ use Rattle.csv.specs.Reading.{Ready, default_config, source_of, strip_bom}
 abbrev pub map_ok : {A B : Type 0} → (A → B) → Result A TableFault → Result B TableFault
 map_ok f (Ok x) = Ok (f x)
 map_ok f (Err fault) = Err fault
-
--- there is room for one slot more
-abbrev pub HasRoom : ColumnValue → Type 0
-HasRoom c = length c.slots + 1 < 2 ^ 63
-
--- ---- a cell
-
--- the column with the slot of a field at its end
-abbrev pub column_with : List ℕ → ColumnValue → List ℕ → Option ColumnValue
-column_with null_word c field = option_map (pushed c) (cell_slot null_word c.dtype field)
-
--- what was taken, where it was
-abbrev pub if_taken : {A : Type 0} → Bool → A → Option A
-if_taken took a = if took then Some a else None
-
--- whether the field reads, and if so the column has its slot at the end
-abbrev pub TakesCell : List ℕ → ColumnValue → ColumnValue → List ℕ → Bool → Type 0
-TakesCell null_word old new field took = if_taken took new ≡ column_with null_word old field
 
 -- ---- a record
 
@@ -55,12 +33,6 @@ columns_with null_word row cs fields = map_ok (pushed_each cs) (record_slots nul
 -- the columns of a header, with no slots, or the header's fault
 abbrev pub columns_of_header : List (List ℕ) → Result Frame TableFault
 columns_of_header fields = map_ok (λ heads. columns_from 0 heads []) (heads_of fields)
-
--- the type is that of the column's storage, and its cells are read
-abbrev pub IsTyped : Series → Type 0
-IsTyped (UInt32 c) = ⊥
-IsTyped (Int64 c) = c.dtype ≡ int64
-IsTyped (String c) = c.dtype ≡ text
 
 -- ---- a reader
 

@@ -3,9 +3,7 @@ use Rattle.std.specs.Prelude.{◌≡◌, ◌==◌, ◌&&◌, ◌||◌, ◌+◌, 
 use Rattle.std.specs.Global.{Global}
 use Rattle.csv.specs.Writing.{default_writer, fields_written, has_written, is_blank, row_body, row_text, text_written, writer_setup}
 use Rattle.csv.specs.declared.writer.Writer.{Writer}
-use Rattle.gb_defs.specs.Slot.{slot_at}
-use Rattle.gb_defs.specs.Column.{ColumnValue, Content, content}
-use Rattle.gb_defs.specs.CellText.{cell_text}
+use Rattle.gb_defs.specs.Column.{Content, content}
 use Rattle.gb_series.specs.declared.series.Series.{Series}
 use Rattle.gb_series.specs.Series.{value_of}
 
@@ -31,7 +29,3 @@ TakesRows old new text = (before : List ℕ) → HasBegun old before [] → HasB
 -- the columns, as a text shows them
 abbrev pub contents_of : List Series → List Content
 contents_of columns = map (λ column. content (value_of column)) columns
-
--- the cell of a column at a row
-abbrev pub cell_of : List ℕ → ColumnValue → ℕ → List ℕ
-cell_of null_word c row = cell_text null_word c.dtype (slot_at c.slots row)

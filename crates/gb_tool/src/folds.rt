@@ -1,55 +1,61 @@
 //! The columns of an answer: each aggregate over the rows of each group.
 
-ghost use Rattle.std.specs.Prelude.{◌≡◌, ℕ, ◌<◌, List, length, All, None, Some, IfOk, IfErr, OnOk, MatchOption, ◌+ℤ◌, not, true, false};
-ghost use Rattle.gb_defs.specs.Slot.{is_nil, slot_at};
-ghost use Rattle.gb_defs.specs.ColumnType.{text, uint32};
+ghost use Rattle.std.specs.Prelude.{◌≡◌, length, All, None, Some, IfOk, IfErr, OnOk, true};
+ghost use Rattle.gb_defs.specs.ColumnType.{Flat, text, uint32};
 ghost use Rattle.gb_defs.specs.Column.{content};
-ghost use Rattle.gb_defs.specs.Fold.{wrap, total, valid, picked, number_slot, sum_type, fold_of, Sum, Count};
-ghost use Rattle.gb_defs.specs.Groups.{AreMembers, HasRowNumbers};
+ghost use Rattle.gb_defs.specs.Fold.{sum_type, Sum, Count};
+ghost use Rattle.gb_defs.specs.Groups.{AreMembers, HasRowNumbers, lists_in};
 ghost use Rattle.gb_defs.specs.Answer.{aggregated, answer_name};
 ghost use Rattle.gb_defs.specs.Fault.{has_sum, InvalidOperation, OfSum};
 ghost use Rattle.gb_cols.specs.PolarsError.{Explains};
 ghost use Rattle.gb_cols.specs.PlSmallStr.{name_of, IsNoMemory};
 ghost use Rattle.gb_cols.specs.Array.{number_slot_of};
-ghost use Rattle.gb_groups.specs.Groups.{lists_of};
+ghost use Rattle.gb_groups.specs.GroupsIndicator.{pair_of};
+ghost use Rattle.gb_groups.specs.GroupsType.{groups_of};
 ghost use Rattle.gb_series.specs.Series.{value_of};
-ghost use Rattle.gb_tool.specs.Folds.{agg_unfit, fold_column, fold_in, unfit_in};
+ghost use Rattle.gb_tool.specs.Folds.{AreGroupsOf, agg_unfit, fold_column, fold_in, unfit_in};
 ghost use Rattle.gb_tool.specs.Request.{agg_of, method_of};
+
+mod number_fold;
+#[cfg(test)]
+mod tests;
 
 use crate::request::{Agg, GroupByMethod};
 use gb_cols::chunked::{ChunkedArray, StringChunked, UInt32Chunked};
 use gb_cols::error::{Operation, PolarsError, PolarsResult};
 use gb_cols::numeric::PolarsNumericType;
 use gb_cols::primitive::PrimitiveArray;
+use gb_cols::series_trait::SeriesTrait;
 use gb_cols::small_str::PlSmallStr;
-use gb_groups::groups_idx::{IdxSize, IdxVec};
+use gb_groups::groups_type::{GroupsIndicator, GroupsType};
+use gb_series::map_numbers;
 use gb_series::series::Series;
+use number_fold::{NumberFold, RowCount, SumOf, ValidCount};
 use std::alloc::Global;
 
-/// The aggregate over each of the lists of rows, unless the type of the column has none.
+/// The aggregate over the rows of each group, unless the type of the column has none.
 pub fn aggregate(
     alloc: Global,
     column: &Series,
     agg: &Agg,
-    lists: &[IdxVec],
+    groups: &GroupsType,
 ) -> PolarsResult<Series>
-    requires rows { All (AreMembers (length (value_of column.now).slots)) (lists_of lists.now) }
-    requires few { HasRowNumbers (length lists.now) }
+    requires groups { AreGroupsOf (value_of column.now) (groups_of groups.now) }
     requires short { HasRowNumbers (length (value_of column.now).slots) }
     ensures fits { OnOk result (agg_unfit agg.now (value_of column.now) ≡ None) }
-    ensures ok { IfOk result (λ s. content (value_of s)
-        ≡ aggregated (agg_of agg.now) (Some (value_of column.now)) (lists_of lists.now)) }
+    ensures ok { IfOk result (λ s. content (value_of s) ≡ aggregated (agg_of agg.now)
+        (Some (value_of column.now)) (lists_in (groups_of groups.now))) }
     ensures err { IfErr result (λ e. Explains e (agg_unfit agg.now (value_of column.now))) }
 {
     let name = name_of_answer(alloc, agg)?;
     match agg.method {
-        GroupByMethod::Sum => column_sums(name, column, &agg.column, lists),
+        GroupByMethod::Sum => column_sums(name, column, &agg.column, groups),
         GroupByMethod::Count { include_nulls } => Ok(Series::UInt32(column_counts(
             alloc,
             name,
             column,
             include_nulls,
-            lists,
+            groups,
         )?)),
     }
 }
@@ -69,27 +75,26 @@ fn name_of_answer(alloc: Global, agg: &Agg) -> PolarsResult<PlSmallStr>
     PlSmallStr::from_str(alloc, name.as_str())
 }
 
-// The sum of a column over each list, unless it is a column of texts.
+// The sum of a column over each group, unless it is a column of texts.
 fn column_sums(
     name: PlSmallStr,
     column: &Series,
     asked: &PlSmallStr,
-    lists: &[IdxVec],
+    groups: &GroupsType,
 ) -> PolarsResult<Series>
-    requires rows { All (AreMembers (length (value_of column.now).slots)) (lists_of lists.now) }
-    requires few { HasRowNumbers (length lists.now) }
+    requires groups { AreGroupsOf (value_of column.now) (groups_of groups.now) }
     ensures fits { OnOk result (has_sum (value_of column.now).dtype ≡ true) }
     ensures ok { IfOk result (λ s. value_of s
         ≡ fold_column (name_of name) (sum_type (value_of column.now).dtype)
-        (fold_in Sum (value_of column.now)) (lists_of lists.now)) }
+        (fold_in Sum (value_of column.now)) (lists_in (groups_of groups.now))) }
     ensures err { IfErr result (λ e.
         Explains e (unfit_in (name_of asked.now) Sum (value_of column.now))) }
 {
-    match column {
-        Series::UInt32(numbers) => Ok(Series::UInt32(sums(name, numbers, lists)?)),
-        Series::Int64(numbers) => Ok(Series::Int64(sums(name, numbers, lists)?)),
-        Series::String(texts) => Err(text_sum(texts, asked)),
-    }
+    map_numbers!(
+        column,
+        numbers => sums(name, numbers, groups)?,
+        texts => Err(text_sum(texts, asked))
+    )
 }
 
 // The refusal of a sum of texts.
@@ -103,141 +108,72 @@ fn text_sum(texts: &StringChunked, asked: &PlSmallStr) -> PolarsError
     }
 }
 
-// The sum over each list.
+// The sum over each group, in the type of the column.
 fn sums<T: PolarsNumericType>(
     name: PlSmallStr,
     column: &ChunkedArray<PrimitiveArray<T>>,
-    lists: &[IdxVec],
+    groups: &GroupsType,
 ) -> PolarsResult<ChunkedArray<PrimitiveArray<T>>>
-    requires rows { All (AreMembers (length column.now.slots)) (lists_of lists.now) }
-    requires few { HasRowNumbers (length lists.now) }
-    ensures typed { column.now.dtype ≡ T.dtype }
-    ensures ok { IfOk result (λ c. c ≡ fold_column (name_of name) T.dtype
-        (fold_of Sum T.dtype column.now.slots) (lists_of lists.now)) }
+    requires { AreGroupsOf column.now (groups_of groups.now) }
+    ensures typed { column.now.dtype ≡ Flat T.Native.flat }
+    ensures ok { IfOk result (λ c. c ≡ fold_column (name_of name) (Flat T.Native.flat)
+        (fold_in Sum column.now) (lists_in (groups_of groups.now))) }
     ensures err { IfErr result IsNoMemory }
 {
-    let mut sums: ChunkedArray<PrimitiveArray<T>> = ChunkedArray::new(column.allocator(), name);
-    sums.reserve(lists.len())?;
-    for rows in lists {
-        sums.push(Some(sum_at(column, rows)))?;
-    }
-    Ok(sums)
+    fold_groups(column.allocator(), name, &SumOf::new(column), groups)
 }
 
-// The sum at these rows.
-fn sum_at<T: PolarsNumericType>(
-    column: &ChunkedArray<PrimitiveArray<T>>,
-    rows: &[IdxSize],
-) -> T::Native
-    requires { All (λ row. row < length column.now.slots) rows.now }
-    ensures { T.number result ≡ wrap T.dtype (total (valid (picked column.now.slots rows.now))) }
-{
-    let mut sum = T::zero();
-    for row in rows {
-        sum = with_slot::<T>(sum, column.get(*row as usize));
-    }
-    sum
-}
-
-// The sum with one slot more.
-fn with_slot<T: PolarsNumericType>(sum: T::Native, slot: Option<T::Native>) -> T::Native
-    ensures { MatchOption slot (result ≡ sum)
-        (λ n. T.number result ≡ wrap T.dtype (T.number sum +ℤ T.number n)) }
-{
-    match slot {
-        Some(number) => T::wrapping_add(sum, number),
-        None => sum,
-    }
-}
-
-// The number of rows, or of valid slots, over each list.
+// The number of rows, or of valid slots, of each group.
 fn column_counts(
     alloc: Global,
     name: PlSmallStr,
     column: &Series,
     include_nulls: bool,
-    lists: &[IdxVec],
+    groups: &GroupsType,
 ) -> PolarsResult<UInt32Chunked>
-    requires rows { All (AreMembers (length (value_of column.now).slots)) (lists_of lists.now) }
-    requires few { HasRowNumbers (length lists.now) }
+    requires groups { AreGroupsOf (value_of column.now) (groups_of groups.now) }
     requires short { HasRowNumbers (length (value_of column.now).slots) }
     ensures ok { IfOk result (λ c. c ≡ fold_column (name_of name) uint32
-        (fold_in (Count include_nulls) (value_of column.now)) (lists_of lists.now)) }
+        (fold_in (Count include_nulls) (value_of column.now)) (lists_in (groups_of groups.now))) }
     ensures err { IfErr result IsNoMemory }
 {
     if include_nulls {
-        list_lengths(alloc, name, lists)
+        fold_groups(alloc, name, &RowCount, groups)
     } else {
-        valid_counts(alloc, name, column, lists)
+        fold_groups(alloc, name, &ValidCount::new(column), groups)
     }
 }
 
-// The length of each list.
-fn list_lengths(alloc: Global, name: PlSmallStr, lists: &[IdxVec]) -> PolarsResult<UInt32Chunked>
-    requires short { All (λ (rows : List ℕ). HasRowNumbers (length rows)) (lists_of lists.now) }
-    requires few { HasRowNumbers (length lists.now) }
-    ensures ok { IfOk result (λ c. c ≡ fold_column (name_of name) uint32
-        (λ rows. number_slot (length rows)) (lists_of lists.now)) }
-    ensures err { IfErr result IsNoMemory }
-{
-    let mut counts = UInt32Chunked::new(alloc, name);
-    counts.reserve(lists.len())?;
-    for rows in lists {
-        counts.push(Some(rows.len() as u32))?;
-    }
-    Ok(counts)
-}
-
-// The number of valid slots over each list, null for an empty list.
-fn valid_counts(
+// The fold over each group.
+fn fold_groups<F: NumberFold>(
     alloc: Global,
     name: PlSmallStr,
-    column: &Series,
-    lists: &[IdxVec],
-) -> PolarsResult<UInt32Chunked>
-    requires rows { All (AreMembers (length (value_of column.now).slots)) (lists_of lists.now) }
-    requires few { HasRowNumbers (length lists.now) }
-    requires short { HasRowNumbers (length (value_of column.now).slots) }
-    ensures ok { IfOk result (λ c. c ≡ fold_column (name_of name) uint32
-        (fold_in (Count false) (value_of column.now)) (lists_of lists.now)) }
+    fold: &F,
+    groups: &GroupsType,
+) -> PolarsResult<ChunkedArray<PrimitiveArray<F::Out>>>
+    requires rows { All (AreMembers (F.height fold.now)) (lists_in (groups_of groups.now)) }
+    requires few { HasRowNumbers (length (groups_of groups.now).pairs) }
+    ensures ok { IfOk result (λ c. c ≡ fold_column (name_of name) (Flat F.Out.Native.flat)
+        (F.fold fold.now) (lists_in (groups_of groups.now))) }
     ensures err { IfErr result IsNoMemory }
 {
-    let mut counts = UInt32Chunked::new(alloc, name);
-    counts.reserve(lists.len())?;
-    for rows in lists {
-        let count = if rows.is_empty() {
-            None
-        } else {
-            Some(valid_at(column, rows))
-        };
-        counts.push(count)?;
+    let mut folded: ChunkedArray<PrimitiveArray<F::Out>> = ChunkedArray::new(alloc, name);
+    folded.reserve(groups.len())?;
+    for group in groups.iter() {
+        folded.push(fold_group(fold, &group))?;
     }
-    Ok(counts)
+    Ok(folded)
 }
 
-// The number of valid slots at these rows.
-fn valid_at(column: &Series, rows: &[IdxSize]) -> u32
-    requires rows { AreMembers (length (value_of column.now).slots) rows.now }
-    requires short { HasRowNumbers (length (value_of column.now).slots) }
-    ensures { result ≡ length (valid (picked (value_of column.now).slots rows.now)) }
+// The fold over the rows of one group.
+fn fold_group<F: NumberFold>(
+    fold: &F,
+    group: &GroupsIndicator<'_>,
+) -> Option<<F::Out as PolarsNumericType>::Native>
+    requires { AreMembers (F.height fold.now) (pair_of group.now).1 }
+    ensures { number_slot_of F.Out.Native.number result ≡ F.fold fold.now (pair_of group.now).1 }
 {
-    let mut count = 0;
-    for row in rows {
-        if is_valid(column, *row as usize) {
-            count += 1;
-        }
-    }
-    count
-}
-
-// Whether the slot at a row is no null.
-fn is_valid(column: &Series, row: usize) -> bool
-    requires { row < length (value_of column.now).slots }
-    ensures { is_nil (slot_at (value_of column.now).slots row) ≡ not result }
-{
-    match column {
-        Series::UInt32(numbers) => numbers.get(row).is_some(),
-        Series::Int64(numbers) => numbers.get(row).is_some(),
-        Series::String(texts) => texts.get(row).is_some(),
+    match group {
+        GroupsIndicator::Idx((_, rows)) => fold.over(rows),
     }
 }

@@ -1,6 +1,6 @@
 //! From a frame to the frame of its groups: one row for each class of rows whose keys agree.
 
-ghost use Rattle.std.specs.Prelude.{◌≡◌, ℕ, ◌<◌, List, [], ◌∷◌, map, length, All, None, Ok, Some, false, is_none, IfOk, IfErr, OnOk};
+ghost use Rattle.std.specs.Prelude.{◌≡◌, ◌<◌, [], ◌∷◌, map, length, All, None, Ok, Some, false, is_none, IfOk, IfErr, OnOk};
 ghost use Rattle.std.specs.Result.{result_err};
 ghost use Rattle.gb_defs.specs.Column.{IsFrame, content, find_column, frame_height};
 ghost use Rattle.gb_defs.specs.Fault.{rows_fault, missing_fault, unfit_fault};
@@ -8,12 +8,11 @@ ghost use Rattle.gb_defs.specs.Answer.{aggregated};
 ghost use Rattle.gb_defs.specs.Outcome.{grouped};
 ghost use Rattle.gb_cols.specs.PolarsError.{Explains};
 ghost use Rattle.gb_defs.specs.Classes.{groups, rows_below, same_slot};
-ghost use Rattle.gb_defs.specs.Groups.{AreMembers, HasRowNumbers, IsWellFormed};
+ghost use Rattle.gb_defs.specs.Groups.{AreMembers, HasRowNumbers, IsWellFormed, lists_in};
 ghost use Rattle.gb_cols.specs.PlSmallStr.{IsNoMemory, name_of};
 ghost use Rattle.gb_groups.specs.GroupsType.{groups_of};
-ghost use Rattle.gb_groups.specs.Groups.{lists_of};
 ghost use Rattle.gb_series.specs.Series.{value_of};
-ghost use Rattle.gb_tool.specs.Grouping.{answer_parts, unfit_cause};
+ghost use Rattle.gb_tool.specs.Grouping.{answer_parts, firsts_in, unfit_cause};
 ghost use Rattle.gb_tool.specs.Request.{agg_of, aggs_of};
 ghost use Rattle.gb_tool.specs.Text.{contents_of};
 
@@ -22,8 +21,8 @@ use crate::request::Agg;
 use gb_cols::device::Gate;
 use gb_cols::error::{PolarsError, PolarsResult};
 use gb_cols::pool::Pool;
+use gb_cols::series_trait::SeriesTrait;
 use gb_cols::small_str::PlSmallStr;
-use gb_groups::groups_idx::{IdxSize, IdxVec};
 use gb_groups::groups_type::GroupsType;
 use gb_paths::into_groups::group_tuples_gated;
 use gb_series::frame::DataFrame;
@@ -70,8 +69,7 @@ fn group_by_key<R: Threads + Sync, G: Gate + Sync>(
     check_height(frame.height())?;
     check_columns(frame, aggs)?;
     let groups = key_groups(rt, key, pool, gate)?;
-    let groups = groups.unwrap_idx();
-    let columns = answer_columns(alloc, frame, key, aggs, groups.first(), groups.all())?;
+    let columns = answer_columns(alloc, frame, key, aggs, &groups)?;
     DataFrame::new(columns)
 }
 
@@ -122,25 +120,25 @@ fn answer_columns(
     frame: &DataFrame,
     key: &Series,
     aggs: &[Agg],
-    firsts: &[IdxSize],
-    lists: &[IdxVec],
+    groups: &GroupsType,
 ) -> PolarsResult<Vec<Series>>
     requires frame { IsFrame frame.now }
     requires short { HasRowNumbers (frame_height frame.now) }
     requires found { missing_fault frame.now (aggs_of aggs.now) ≡ None }
-    requires firsts { All (λ row. row < length (value_of key.now).slots) firsts.now }
-    requires rows { All (AreMembers (frame_height frame.now)) (lists_of lists.now) }
-    requires few { HasRowNumbers (length lists.now) }
+    requires firsts { All (λ row. row < length (value_of key.now).slots)
+        (firsts_in (groups_of groups.now)) }
+    requires rows { All (AreMembers (frame_height frame.now)) (lists_in (groups_of groups.now)) }
+    requires few { HasRowNumbers (length (groups_of groups.now).pairs) }
     ensures ok { IfOk result (λ columns. contents_of columns.items
         ≡ answer_parts frame.now (value_of key.now ∷ []) (aggs_of aggs.now)
-        firsts.now (lists_of lists.now)) }
+        (firsts_in (groups_of groups.now)) (lists_in (groups_of groups.now))) }
     ensures fits { OnOk result (unfit_fault frame.now (aggs_of aggs.now) ≡ None) }
     ensures err { IfErr result (λ e. Explains e (unfit_fault frame.now (aggs_of aggs.now))) }
 {
     let mut columns = Vec::with_capacity(alloc, 1)?;
-    columns.push(key.take(firsts)?)?;
+    columns.push(key.take(groups.first())?)?;
     for agg in aggs {
-        columns.push(found_aggregate(alloc, frame, agg, lists)?)?;
+        columns.push(found_aggregate(alloc, frame, agg, groups)?)?;
     }
     Ok(columns)
 }
@@ -150,18 +148,18 @@ fn found_aggregate(
     alloc: Global,
     frame: &DataFrame,
     agg: &Agg,
-    lists: &[IdxVec],
+    groups: &GroupsType,
 ) -> PolarsResult<Series>
     requires frame { IsFrame frame.now }
     requires short { HasRowNumbers (frame_height frame.now) }
     requires found { is_none (find_column frame.now (name_of agg.now.column)) ≡ false }
-    requires rows { All (AreMembers (frame_height frame.now)) (lists_of lists.now) }
-    requires few { HasRowNumbers (length lists.now) }
+    requires rows { All (AreMembers (frame_height frame.now)) (lists_in (groups_of groups.now)) }
+    requires few { HasRowNumbers (length (groups_of groups.now).pairs) }
     ensures ok { IfOk result (λ s. content (value_of s) ≡ aggregated (agg_of agg.now)
-        (find_column frame.now (name_of agg.now.column)) (lists_of lists.now)) }
+        (find_column frame.now (name_of agg.now.column)) (lists_in (groups_of groups.now))) }
     ensures fits { OnOk result (unfit_cause frame.now agg.now ≡ None) }
     ensures err { IfErr result (λ e. Explains e (unfit_cause frame.now agg.now)) }
 {
     let column = frame.column(agg.column.as_str())?;
-    aggregate(alloc, column, agg, lists)
+    aggregate(alloc, column, agg, groups)
 }

@@ -16,6 +16,7 @@ mod table;
 #[cfg(test)]
 mod tests;
 mod text;
+mod type_word;
 mod words;
 
 use crate::run::{Limits, run};

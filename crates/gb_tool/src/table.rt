@@ -1,7 +1,6 @@
 //! A table's text, read as a frame: in place where it is plain, and else by `csv`, which tells each
 //! fault at its place.
 
-mod cell;
 mod column;
 mod header;
 mod header_field;

@@ -92,7 +92,19 @@ struct Row {
     wrote: &'static str,
 }
 
-const ROWS: [Row; 10] = [
+const ROWS: [Row; 12] = [
+    Row {
+        words: "group --by k --agg sum:v",
+        input: "k:i128,v:i32\n1,5\n4294967297,6\n1,7\n",
+        code: 0,
+        wrote: "k:i128,v_sum:i32\n1,12\n4294967297,6\n",
+    },
+    Row {
+        words: "group --by k --agg sum:v",
+        input: "k,v:i32\nx,2147483647\nx,1\n",
+        code: 0,
+        wrote: "k:str,v_sum:i32\nx,-2147483648\n",
+    },
     Row {
         words: SUMS,
         input: DAYS,
@@ -167,6 +179,127 @@ fn rows_end_as_they_say(rt: HostRuntime) -> Result<(), Fail> {
     Ok(())
 }
 
+/// A type's word, the ends of its range, and the numbers one past them.
+struct Range {
+    word: &'static str,
+    least: &'static str,
+    greatest: &'static str,
+    below: &'static str,
+    above: &'static str,
+}
+
+const RANGES: [Range; 9] = [
+    Range {
+        word: "u8",
+        least: "0",
+        greatest: "255",
+        below: "-1",
+        above: "256",
+    },
+    Range {
+        word: "u16",
+        least: "0",
+        greatest: "65535",
+        below: "-1",
+        above: "65536",
+    },
+    Range {
+        word: "u32",
+        least: "0",
+        greatest: "4294967295",
+        below: "-1",
+        above: "4294967296",
+    },
+    Range {
+        word: "u64",
+        least: "0",
+        greatest: "18446744073709551615",
+        below: "-1",
+        above: "18446744073709551616",
+    },
+    Range {
+        word: "i8",
+        least: "-128",
+        greatest: "127",
+        below: "-129",
+        above: "128",
+    },
+    Range {
+        word: "i16",
+        least: "-32768",
+        greatest: "32767",
+        below: "-32769",
+        above: "32768",
+    },
+    Range {
+        word: "i32",
+        least: "-2147483648",
+        greatest: "2147483647",
+        below: "-2147483649",
+        above: "2147483648",
+    },
+    Range {
+        word: "i64",
+        least: "-9223372036854775808",
+        greatest: "9223372036854775807",
+        below: "-9223372036854775809",
+        above: "9223372036854775808",
+    },
+    Range {
+        word: "i128",
+        least: "-170141183460469231731687303715884105728",
+        greatest: "170141183460469231731687303715884105727",
+        below: "-170141183460469231731687303715884105729",
+        above: "170141183460469231731687303715884105728",
+    },
+];
+
+// The rows have both ends as keys and as values; each sum but one goes past an end.
+fn groups_as_it_wraps<R: Threads + Sync>(
+    rt: &R,
+    alloc: Global,
+    range: &Range,
+    words: &str,
+) -> Result<bool, Fail> {
+    let (word, least, greatest) = (range.word, range.least, range.greatest);
+    let head = format!(in alloc; "k:{word},v:{word}\n{least},{greatest}\n{greatest},1\n")?;
+    let input = format!(in alloc; "{head}{least},1\n,{least}\n,\n{greatest},\n")?;
+    let first = format!(in alloc; "k:{word},v_sum:{word},v_count:u32\n{least},{least},2\n")?;
+    let wanted = format!(in alloc; "{first}{greatest},1,2\n,{least},2\n")?;
+    let mut source = source_of(alloc, input.as_bytes())?;
+    let mut sink = MemSink::new(alloc, 4096, 4096, Vec::new(alloc))?;
+    let status = status_of(rt, alloc, words, 4096, &mut source, &mut sink)?;
+    Ok(status.code() == 0 && sink.bytes() == wanted.as_bytes())
+}
+
+// Whether a cell of the type is refused at its place.
+fn is_refused<R: Threads + Sync>(
+    rt: &R,
+    alloc: Global,
+    word: &str,
+    cell: &str,
+) -> Result<bool, Fail> {
+    let input = format!(in alloc; "a,k:{word}\nx,1\ny,{cell}\n")?;
+    let mut source = source_of(alloc, input.as_bytes())?;
+    let mut sink = MemSink::new(alloc, 4096, 4096, Vec::new(alloc))?;
+    let status = status_of(rt, alloc, "group --by a", 4096, &mut source, &mut sink)?;
+    Ok(matches!(status, Status::Table(TableFault::BadCell(2, 2))))
+}
+
+#[test]
+fn each_number_type(rt: HostRuntime) -> Result<(), Fail> {
+    let alloc = rt.alloc();
+    let alone = "group --by k --agg sum:v --agg count:v";
+    let four = "group --by k --agg sum:v --agg count:v --workers 4 --threshold 1";
+    for range in &RANGES {
+        assert!(rt; groups_as_it_wraps(&rt, alloc, range, alone)?);
+        assert!(rt; groups_as_it_wraps(&rt, alloc, range, four)?);
+        assert!(rt; is_refused(&rt, alloc, range.word, range.below)?);
+        assert!(rt; is_refused(&rt, alloc, range.word, range.above)?);
+    }
+    Ok(())
+}
+
 /// A table's bytes and its fault.
 struct BadTable {
     input: &'static [u8],
@@ -195,7 +328,7 @@ const BAD_TABLES: [BadTable; 12] = [
         fault: TableFault::SameName(2),
     },
     BadTable {
-        input: b"a,b:i32\n",
+        input: b"a,b:date\n",
         fault: TableFault::BadCell(0, 2),
     },
     BadTable {

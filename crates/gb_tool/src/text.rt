@@ -5,31 +5,19 @@ ghost use Rattle.std.specs.List.{flat_map};
 ghost use Rattle.gb_defs.specs.Classes.{rows_below};
 ghost use Rattle.gb_defs.specs.Column.{content};
 ghost use Rattle.gb_defs.specs.Text.{frame_text, header_field, header_line, row_line};
-ghost use Rattle.gb_defs.specs.TypeWord.{type_word};
-ghost use Rattle.gb_cols.specs.DataType.{type_of};
+ghost use Rattle.gb_cols.specs.Column.{cell_of};
 ghost use Rattle.gb_cols.specs.PlSmallStr.{IsNoMemory};
 ghost use Rattle.gb_series.specs.Series.{value_of};
-ghost use Rattle.gb_tool.specs.Text.{EndsRow, TakesField, TakesRows, cell_of, contents_of};
+ghost use Rattle.gb_tool.specs.Text.{EndsRow, TakesField, TakesRows, contents_of};
 
 use crate::table::only_memory;
+use crate::type_word::word_of;
 use csv::{Writer, WriterBuilder};
-use gb_cols::data_type::DataType;
 use gb_cols::error::{PolarsError, PolarsResult};
+use gb_cols::series_trait::SeriesTrait;
 use gb_series::frame::DataFrame;
 use gb_series::series::Series;
-use itoa::Buffer;
 use std::alloc::{AllocError, Global};
-
-// The word of a type.
-fn word_of(dtype: DataType) -> &'static str
-    ensures { result.now ≡ type_word (type_of dtype) }
-{
-    match dtype {
-        DataType::UInt32 => "u32",
-        DataType::Int64 => "i64",
-        DataType::String => "str",
-    }
-}
 
 // One field more of the record.
 fn put_field(writer: &mut Writer<Vec<u8>>, field: &[u8]) -> Result<(), AllocError>
@@ -68,42 +56,21 @@ fn put_head(
     put_field(writer, field.as_slice())
 }
 
-// The cell of a column at a row.
+// The cell of a column at a row, made in `cell`.
 fn put_cell(
     writer: &mut Writer<Vec<u8>>,
     column: &Series,
     row: usize,
     null_word: &str,
+    cell: &mut Vec<u8>,
 ) -> Result<(), AllocError>
     requires { row < length (value_of column.now).slots }
     ensures { let cell = cell_of null_word.now (value_of column.now) row in
         OnOk result (TakesField writer.old writer.new cell) }
 {
-    let mut digits = Buffer::new();
-    // A call of `name` tells the column's type.
-    match column {
-        Series::UInt32(column) => {
-            let _ = column.name();
-            match column.get(row) {
-                Some(number) => put_field(writer, digits.format(number).as_bytes()),
-                None => put_field(writer, null_word.as_bytes()),
-            }
-        }
-        Series::Int64(column) => {
-            let _ = column.name();
-            match column.get(row) {
-                Some(number) => put_field(writer, digits.format(number).as_bytes()),
-                None => put_field(writer, null_word.as_bytes()),
-            }
-        }
-        Series::String(column) => {
-            let _ = column.name();
-            match column.get(row) {
-                Some(text) => put_field(writer, text.as_bytes()),
-                None => put_field(writer, null_word.as_bytes()),
-            }
-        }
-    }
+    cell.clear();
+    column.write_cell(row, null_word, cell)?;
+    put_field(writer, cell.as_slice())
 }
 
 // The row of header fields.
@@ -128,13 +95,14 @@ fn put_row(
     columns: &[Series],
     row: usize,
     null_word: &str,
+    cell: &mut Vec<u8>,
 ) -> Result<(), AllocError>
     requires { All (λ column. row < length (value_of column).slots) columns.now }
     ensures { let line = row_line null_word.now (contents_of columns.now) row in
         OnOk result (TakesRows writer.old writer.new line) }
 {
     for column in columns {
-        put_cell(writer, column, row, null_word)?;
+        put_cell(writer, column, row, null_word, cell)?;
     }
     end_row(writer)
 }
@@ -145,13 +113,14 @@ fn put_rows(
     columns: &[Series],
     height: usize,
     null_word: &str,
+    cell: &mut Vec<u8>,
 ) -> Result<(), AllocError>
     requires { All (λ column. length (value_of column).slots ≡ height) columns.now }
     ensures { let line = row_line null_word.now (contents_of columns.now) in
         OnOk result (TakesRows writer.old writer.new (flat_map line (rows_below height))) }
 {
     for row in 0..height {
-        put_row(writer, columns, row, null_word)?;
+        put_row(writer, columns, row, null_word, cell)?;
     }
     Ok(())
 }
@@ -167,7 +136,8 @@ pub fn text_of(alloc: Global, frame: &DataFrame, null_word: &str) -> PolarsResul
     }
     let mut writer = WriterBuilder::new().from_writer(Vec::new(alloc));
     put_header(alloc, &mut writer, columns)?;
-    put_rows(&mut writer, columns, frame.height(), null_word)?;
+    let mut cell = Vec::new(alloc);
+    put_rows(&mut writer, columns, frame.height(), null_word, &mut cell)?;
     match writer.into_inner() {
         Ok(text) => Ok(text),
         Err(_) => Err(PolarsError::NoMemory),

@@ -2,58 +2,116 @@ ghost use Rattle.std.specs.Prelude.{◌≡◌, ◌<◌};
 
 use crate::byte_rows::ByteRows;
 use crate::key_rows::KeyRows;
+use crate::list_rows::ListRows;
 use crate::mixer::SeedMixer;
 use crate::num_rows::NumRows;
 use crate::slice_rows::SliceRows;
 use crate::steps::Steps;
-use crate::word_hash::hash_null;
+use crate::text_rows::TextRows;
 use gb_cols::chunked::{Int64Chunked, StringChunked};
+use gb_cols::error::PolarsResult;
 use gb_cols::small_str::PlSmallStr;
+use std::alloc::Global;
 use std::marker::Brand;
 use std::sync::ledger::{Blank, Ledger};
 use std::test::Fail;
 
-#[test]
-fn rows_of_each_kind(rt: HostRuntime) -> Result<(), Fail> {
-    let alloc = rt.alloc();
-    let mixer = SeedMixer::new(7);
-    let wanted_numbers = [Some(5), None, Some(-1), Some(5)];
+// The hashes under the seed 7 of null, and of 5 and -1 in one word and in two.
+const NULL: u64 = 10369894495938295073;
+
+const FIVE: u64 = 16879849568532771706;
+
+const MINUS_ONE: u64 = 18246602271723342527;
+
+const WIDE_FIVE: u64 = 3518884849563188444;
+
+const WIDE_MINUS_ONE: u64 = 490528790413895549;
+// Of 2 ^ 64 in two words.
+const HIGH_ONE: u64 = 17069728591328954800;
+// Of texts.
+const EIGHT_BY: u64 = 9880350877879431617;
+
+const LETTER_A: u64 = 5147673060945396342;
+
+fn mixer() -> SeedMixer {
+    SeedMixer::new(7)
+}
+
+fn numbers_read(alloc: Global) -> PolarsResult<bool> {
+    let keys = [Some(5), None, Some(-1), Some(5)];
     let name = PlSmallStr::from_str(alloc, "n")?;
-    let numbers = Int64Chunked::from_slice_options(alloc, name, &wanted_numbers)?;
-    let wanted_texts = [Some("eight by"), None, Some("eight bytes"), Some("a")];
-    let mut texts = StringChunked::new(alloc, PlSmallStr::from_str(alloc, "t")?);
-    texts.push(wanted_texts[0])?;
-    texts.push(wanted_texts[1])?;
-    texts.push(wanted_texts[2])?;
-    texts.push(wanted_texts[3])?;
-    let mut two = StringChunked::new(alloc, PlSmallStr::from_str(alloc, "t")?);
-    two.push(Some("a"))?;
-    two.push(None)?;
-    assert_eq!(rt; ByteRows::new(&two, mixer).len(), 2);
-    let numbers = NumRows::new(&numbers, mixer);
-    let texts = ByteRows::new(&texts, mixer);
-    let null = 10369894495938295073;
-    assert_eq!(rt; hash_null(&mixer), null);
-    let five = 16879849568532771706;
-    let number_hashes = [five, null, 18246602271723342527, five];
-    let text_hashes = [
-        9880350877879431617,
-        null,
-        9494567250264855307,
-        5147673060945396342,
-    ];
-    assert!(rt; reads_once(&numbers, &wanted_numbers, &number_hashes));
-    assert!(rt; reads_once(&texts, &wanted_texts, &text_hashes));
-    let halves = [5i128, -1, 1 << 64];
-    let halves_hashes = [
-        3518884849563188444,
-        490528790413895549,
-        17069728591328954800,
-    ];
-    assert!(rt; reads_once(&SliceRows::new(&halves, mixer), &halves, &halves_hashes));
-    let small = [5u8, 0, 5];
-    let small_hashes = [five, 1346066267577507604, five];
-    assert!(rt; reads_once(&SliceRows::new(&small, mixer), &small, &small_hashes));
+    let column = Int64Chunked::from_slice_options(alloc, name, &keys)?;
+    let rows = NumRows::new(&column, mixer());
+    Ok(reads_once(&rows, &keys, &[FIVE, NULL, MINUS_ONE, FIVE]))
+}
+
+fn texts_read(alloc: Global) -> PolarsResult<bool> {
+    let mut column = StringChunked::new(alloc, PlSmallStr::from_str(alloc, "t")?);
+    column.push(Some("eight by"))?;
+    column.push(None)?;
+    let keys = [Some("eight by"), None];
+    let rows = ByteRows::new(&column, mixer());
+    Ok(reads_once(&rows, &keys, &[EIGHT_BY, NULL]))
+}
+
+fn plain_texts_read(alloc: Global) -> PolarsResult<bool> {
+    let mut column = StringChunked::new(alloc, PlSmallStr::from_str(alloc, "t")?);
+    column.push(Some("eight by"))?;
+    column.push(Some("a"))?;
+    let keys = ["eight by".as_bytes(), "a".as_bytes()];
+    match column.all_valid() {
+        Some(texts) => Ok(reads_once(&TextRows::new(texts, mixer()), &keys, &[EIGHT_BY, LETTER_A])),
+        None => Ok(false),
+    }
+}
+
+fn slices_read() -> bool {
+    let wide = [5i128, -1, 1 << 64];
+    let small = [5u8, 5];
+    reads_once(
+        &SliceRows::new(&wide, mixer()),
+        &wide,
+        &[WIDE_FIVE, WIDE_MINUS_ONE, HIGH_ONE],
+    ) && reads_once(&SliceRows::new(&small, mixer()), &small, &[FIVE, FIVE])
+}
+
+fn words_read() -> bool {
+    let words = [Some(5u64), None, Some(u64::MAX)];
+    reads_once(
+        &ListRows::new(&words, mixer()),
+        &words,
+        &[FIVE, NULL, MINUS_ONE],
+    )
+}
+
+fn wide_words_read() -> bool {
+    let words = [Some(5u128), Some(u128::MAX), None];
+    reads_once(
+        &ListRows::new(&words, mixer()),
+        &words,
+        &[WIDE_FIVE, WIDE_MINUS_ONE, NULL],
+    )
+}
+
+fn bytes_read() -> bool {
+    let bytes = [None, Some("a".as_bytes())];
+    reads_once(&ListRows::new(&bytes, mixer()), &bytes, &[NULL, LETTER_A])
+}
+
+#[test]
+fn rows_of_columns(rt: HostRuntime) -> Result<(), Fail> {
+    assert!(rt; numbers_read(rt.alloc())?);
+    assert!(rt; texts_read(rt.alloc())?);
+    assert!(rt; plain_texts_read(rt.alloc())?);
+    Ok(())
+}
+
+#[test]
+fn rows_of_lists(rt: HostRuntime) -> Result<(), Fail> {
+    assert!(rt; slices_read());
+    assert!(rt; words_read());
+    assert!(rt; wide_words_read());
+    assert!(rt; bytes_read());
     Ok(())
 }
 

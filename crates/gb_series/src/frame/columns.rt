@@ -7,6 +7,7 @@ ghost use Rattle.gb_series.specs.Series.{value_of};
 
 use crate::series::Series;
 use gb_cols::error::PolarsResult;
+use gb_cols::series_trait::SeriesTrait;
 use gb_cols::small_str::PlSmallStr;
 use std::collections::HashSet;
 

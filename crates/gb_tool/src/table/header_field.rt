@@ -7,20 +7,13 @@ ghost use Rattle.gb_defs.specs.TypeWord.{type_words};
 ghost use Rattle.std.specs.List.{list_any};
 ghost use Rattle.std.specs.Str.{bytes_eq};
 
+use crate::type_word::dtype_of;
 use gb_cols::data_type::DataType;
 
 // The words of the types of which no cell is read today.
-const UNREAD_WORDS: [&str; 60] = [
+const UNREAD_WORDS: [&str; 52] = [
     "null",
     "bool",
-    "u8",
-    "u16",
-    "u32",
-    "u64",
-    "i8",
-    "i16",
-    "i32",
-    "i128",
     "date",
     "time",
     "datetime_ns",
@@ -88,11 +81,10 @@ fn read_head(field: &str) -> Option<(&str, DataType)>
     let Some((name, word)) = field.rsplit_once(':') else {
         return Some((field, DataType::String));
     };
-    match word {
-        "i64" => Some((name, DataType::Int64)),
-        "str" => Some((name, DataType::String)),
-        _ if is_unread(word) => None,
-        _ => Some((field, DataType::String)),
+    match dtype_of(word) {
+        Some(dtype) => Some((name, dtype)),
+        None if is_unread(word) => None,
+        None => Some((field, DataType::String)),
     }
 }
 

@@ -5,17 +5,17 @@ ghost use Rattle.std.specs.Prelude.{◌≡◌, ◌≢◌, ◌≤◌, true, lengt
 ghost use Rattle.std.specs.Bool.{OnTrue};
 ghost use Rattle.std.specs.Str.{IsAscii};
 ghost use Rattle.csv.specs.Records.{fields_of};
+ghost use Rattle.gb_cols.specs.Column.{HasRoom};
 ghost use Rattle.gb_defs.specs.Table.{table};
 ghost use Rattle.gb_series.specs.Series.{value_of};
 ghost use Rattle.gb_tool.specs.Plain.{BeginsWith, IsCut, TakesLine};
 ghost use Rattle.gb_tool.specs.Refusal.{IsRefusedTable};
-ghost use Rattle.gb_tool.specs.Table.{HasRoom, IsTyped};
 
 use crate::status::TableError;
-use crate::table::column::push_cell;
 use crate::table::frame_of;
 use crate::table::header::columns_of_header;
 use csv::ByteRecord;
+use gb_cols::series_trait::SeriesTrait;
 use gb_series::frame::DataFrame;
 use gb_series::series::Series;
 use std::alloc::{AllocError, Global};
@@ -70,14 +70,12 @@ fn push_line<'a>(
     ascii: bool,
     null_word: &str,
 ) -> Result<Option<&'a [u8]>, AllocError>
-    requires typed { All IsTyped columns.old }
     requires room { All (λ column. HasRoom (value_of column)) columns.old }
     requires ascii { ascii ≡ true → IsAscii text.now }
     ensures ok { let old = map value_of columns.old in
         let new = map value_of columns.new in
         IfOk result (λ found.
         IfSome found (λ rest. TakesLine null_word.now old new text.now rest.now)) }
-    ensures typed { IfOk result (λ found. IfSome found (λ _. All IsTyped columns.new)) }
     ensures ascii { IfOk result (λ found. IfSome found (λ rest. ascii ≡ true → IsAscii rest.now)) }
 {
     let mut left = text;
@@ -89,7 +87,7 @@ fn push_line<'a>(
         let Some((cell, rest, last)) = next_cell(left) else {
             return Ok(None);
         };
-        if !push_cell(column, cell, ascii, null_word)? {
+        if !column.push_cell(cell, ascii, null_word)? {
             return Ok(None);
         }
         left = rest;

@@ -21,6 +21,14 @@ pub returns-clause-sums_and_counts : goal.returns-clause-sums_and_counts
 unfolding outcome grouped_by table records_from next_record strip_bom head_of type_words cell_slot is_utf8 fault answer firsts is_first class fold_picked frame_text int_wrap escaped fields_text is_blank chars encode digits
 returns-clause-sums_and_counts c = refl
 
+pub returns-clause-wide_keys : goal.returns-clause-wide_keys
+unfolding outcome grouped_by table records_from next_record strip_bom head_of type_words cell_slot is_utf8 fault answer firsts is_first class fold_picked frame_text int_wrap escaped fields_text is_blank chars encode digits
+returns-clause-wide_keys c = refl
+
+pub returns-clause-sum_wraps : goal.returns-clause-sum_wraps
+unfolding outcome grouped_by table records_from next_record strip_bom head_of type_words cell_slot is_utf8 fault answer firsts is_first class fold_picked frame_text int_wrap escaped fields_text is_blank chars encode digits
+returns-clause-sum_wraps c = refl
+
 pub returns-clause-null_is_a_group : goal.returns-clause-null_is_a_group
 unfolding outcome grouped_by table records_from next_record strip_bom head_of type_words cell_slot is_utf8 fault answer firsts is_first class fold_picked frame_text int_wrap escaped fields_text is_blank chars encode digits
 returns-clause-null_is_a_group c = refl

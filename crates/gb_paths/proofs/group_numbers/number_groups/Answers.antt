@@ -1,4 +1,4 @@
-use Rattle.std.proofs.Common.{arith, ◌≤◌, length, get_or, refl, sym, ◌∙◌}
+use Rattle.std.proofs.Common.{arith, ◌+◌, ◌≤◌, length, get_or, refl, sym, ◌∙◌}
 use Rattle.gb_paths.proofs.KeyLemmas.{alike, few_groups, numbered_none, numbered_old, numbered_new, numbered_groups, numbered_ascend}
 use Rattle.gb_paths.proofs.HashLemmas.{hash_of_row}
 use Rattle.gb_paths.proofs.MemberLemmas.{few_members, members_more}
@@ -24,9 +24,10 @@ number_of-requires-clause-alike g c =
     let row = get_or c.args.members.now c.loop-row.row-index 0 in
     -- the rows and the keys may go to other threads, so their laws hold wherever a thread may run: here too
     let laws = g.met.R.KeyRows g.world.𝓛 g.world.𝓜 g.world.𝓡 ((λ s x. x), (λ x. x), (λ x. x), λ x. x) in
-    let inside = c.requires.members.below c.loop-row.row-index 0 c.loop-row-test.true in
-    let hashed = hash_of_row rows c.args.hashes.now row c.requires.hashes inside in
-    let members = members_more (length c.args.hashes.now) rows.count _ (omega (arith, c.requires.hashes.within)) c.requires.members in
+    let low = c.requires.from c.loop-row.row-index 0 c.loop-row-test.true in
+    let high = c.requires.members.below c.loop-row.row-index 0 c.loop-row-test.true in
+    let hashed = hash_of_row rows c.args.start c.args.hashes.now row c.requires.hashes low high in
+    let members = members_more (c.args.start + length c.args.hashes.now) rows.count _ c.requires.hashes.within c.requires.members in
     alike _ _ _ _ c.loop-row.invariant.numbered rows.count members row c.loop-row-test.true refl laws.keys_decide c.key_at-key.result c.key_at-key.ensures.value _ hashed (laws.hashes_alike c.args.rows.now)
 
 pub loop-row-preserved : goal.loop-row-preserved
@@ -34,9 +35,10 @@ loop-row-preserved g c =
     let rows = g.R.KeyRows.rows c.args.rows.now in
     let row = get_or c.args.members.now c.loop-row.row-index 0 in
     let laws = g.met.R.KeyRows g.world.𝓛 g.world.𝓜 g.world.𝓡 ((λ s x. x), (λ x. x), (λ x. x), λ x. x) in
-    let inside = c.requires.members.below c.loop-row.row-index 0 c.loop-row-test.true in
-    let hashed = hash_of_row rows c.args.hashes.now row c.requires.hashes inside in
-    let members = members_more (length c.args.hashes.now) rows.count _ (omega (arith, c.requires.hashes.within)) c.requires.members in
+    let low = c.requires.from c.loop-row.row-index 0 c.loop-row-test.true in
+    let high = c.requires.members.below c.loop-row.row-index 0 c.loop-row-test.true in
+    let hashed = hash_of_row rows c.args.start c.args.hashes.now row c.requires.hashes low high in
+    let members = members_more (c.args.start + length c.args.hashes.now) rows.count _ c.requires.hashes.within c.requires.members in
     let long = c.len.ensures in
     record {
       numbered = elim c.if-number-len.branch [
@@ -60,3 +62,6 @@ pub returns-clause-ascend : goal.returns-clause-ascend
 returns-clause-ascend g c =
     let all : length c.args.members.now ≤ c.loop-row.row-index = omega arith in
     numbered_ascend _ _ _ _ all c.loop-row.invariant.numbered c.requires.members.ascend
+
+pub returns-clause-entries : goal.returns-clause-entries
+returns-clause-entries g c = record { keys = c.loop-row.invariant.numbered.keys; hashes = c.loop-row.invariant.numbered.hashes }

@@ -1,4 +1,4 @@
-use Rattle.std.proofs.Common.{◌≡◌, ◌∙◌, ap, sym, subst, List, [], ◌∷◌, None, false, is_none, arith}
+use Rattle.std.proofs.Common.{◌≡◌, ◌∙◌, ap, sym, subst, List, [], ◌∷◌, false, is_none, arith}
 use Rattle.std.proofs.lemmas.List.{take_all, map-append}
 use Rattle.std.proofs.lemmas.Result.{err_from_is_err_and}
 use Rattle.gb_defs.specs.Column.{content, find_column}
@@ -6,9 +6,10 @@ use Rattle.gb_defs.specs.Fault.{unfit_fault}
 use Rattle.gb_series.specs.declared.series.Series.{Series}
 use Rattle.gb_cols.specs.PlSmallStr.{name_of}
 use Rattle.gb_cols.specs.PolarsError.{Explains, cause_of}
-use Rattle.gb_groups.specs.Groups.{lists_of}
+use Rattle.gb_defs.specs.Groups.{lists_in}
+use Rattle.gb_groups.specs.GroupsType.{groups_of}
 use Rattle.gb_series.specs.Series.{value_of}
-use Rattle.gb_tool.specs.Grouping.{answer_parts, unfit_cause}
+use Rattle.gb_tool.specs.Grouping.{answer_parts, firsts_in, unfit_cause}
 use Rattle.gb_tool.specs.Request.{aggs_of}
 use Rattle.gb_tool.specs.Text.{contents_of}
 use Rattle.gb_tool.specs.declared.request.Agg.{Agg}
@@ -42,7 +43,7 @@ loop-agg-preserved c =
     let one = c.in_ok-found_aggregate.field-0 in
     record {
       parts = ap contents_of c.in_ok-push-2.ensures.items ∙ map-append part c.loop-agg.columns.items (one ∷ [])
-          ∙ parts_more frame (value_of c.args.key.now ∷ []) c.args.firsts.now (lists_of c.args.lists.now) aggs i agg c.loop-agg-test.true c.agg-item.is
+          ∙ parts_more frame (value_of c.args.key.now ∷ []) (firsts_in (groups_of c.args.groups.now)) (lists_in (groups_of c.args.groups.now)) aggs i agg c.loop-agg-test.true c.agg-item.is
           (contents_of c.loop-agg.columns.items) (part one) c.loop-agg.invariant.parts c.in_ok-found_aggregate.ensures.ok;
       fit = causes_more (unfit_cause frame) aggs i agg c.loop-agg-test.true c.loop-agg.invariant.fit (rw (← c.agg-item.is) c.in_ok-found_aggregate.ensures.fits);
     }
@@ -50,7 +51,7 @@ loop-agg-preserved c =
 pub returns-clause-ok : goal.returns-clause-ok
 returns-clause-ok c =
     c.loop-agg.invariant.parts
-    ∙ ap (λ (aggs : List Agg). answer_parts c.args.frame.now (value_of c.args.key.now ∷ []) (aggs_of aggs) c.args.firsts.now (lists_of c.args.lists.now))
+    ∙ ap (λ (aggs : List Agg). answer_parts c.args.frame.now (value_of c.args.key.now ∷ []) (aggs_of aggs) (firsts_in (groups_of c.args.groups.now)) (lists_in (groups_of c.args.groups.now)))
     (take_all c.loop-agg.agg-index c.args.aggs.now (omega (arith, c.loop-agg-test.false)))
 
 pub returns-clause-fits : goal.returns-clause-fits

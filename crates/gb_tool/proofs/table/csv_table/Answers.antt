@@ -31,7 +31,7 @@ loop-row-init c =
     let a = c.reader_of-reader in
     let read = rw c.if-not-found.false at c.in_ok-found.ensures.read in
     taking_header c.args.null_word.now c.args.bytes.now a.result c.read_record.new.reader a.ensures (fields_of c.read_record.new.fields) read
-    c.in_ok-found.ensures.gives c.in_ok-columns.columns.items c.in_ok-columns.ensures.ok c.in_ok-columns.ensures.typed
+    c.in_ok-found.ensures.gives c.in_ok-columns.columns.items c.in_ok-columns.ensures.ok
 
 pub read_record-requires-in-loop-row : goal.read_record-requires-in-loop-row
 read_record-requires-in-loop-row c = c.loop-row.invariant.gives
@@ -47,9 +47,10 @@ returns-then-not-found-2-clause-ok c =
     let all = taking_all c.args.null_word.now c.args.bytes.now c.loop-row.row c.loop-row.columns.items c.loop-row.reader s new.reader (fields_of new.fields) read in
     all ∙ ap (λ f. Ok f) (sym c.in_ok-frame_of.ensures)
 
-pub push_record-requires-clause-room : goal.push_record-requires-clause-room
-push_record-requires-clause-room c =
-    rw c.deref_mut.ensures.value (taking_room c.args.null_word.now c.args.bytes.now c.loop-row.row c.loop-row.columns.items c.loop-row.reader c.loop-row.invariant c.requires)
+pub push_record-requires : goal.push_record-requires
+push_record-requires c = record {
+  room = rw c.deref_mut.ensures.value (taking_room c.args.null_word.now c.args.bytes.now c.loop-row.row c.loop-row.columns.items c.loop-row.reader c.loop-row.invariant c.requires);
+}
 
 pub returns-in_err-push_record-clause-err : goal.returns-in_err-push_record-clause-err
 returns-in_err-push_record-clause-err c =
@@ -71,4 +72,4 @@ loop-row-preserved c =
     let new = c.push_record.new.columns in
     let long : length new ≡ c.loop-row.columns.len = omega arith in
     rw (take_at new (drop (length new) c.loop-row.columns.items) c.loop-row.columns.len long) (taking_more c.args.null_word.now c.args.bytes.now c.loop-row.row c.loop-row.columns.items c.loop-row.reader s
-    before.reader (fields_of before.fields) read c.in_ok-found-2.ensures.gives new good c.in_ok-push_record.ensures.typed)
+    before.reader (fields_of before.fields) read c.in_ok-found-2.ensures.gives new good)

@@ -1,9 +1,7 @@
 use Rattle.std.proofs.Common.{◌≡◌, ◌≢◌, ◌∙◌, map, ◌<◌, length, get_or, sym, arith}
 use Rattle.std.proofs.lemmas.List.{length-map, map-set, get_or-map, get_or-set_other, length-set}
-use Rattle.std.proofs.lemmas.List.Elements.{All-set}
 use Rattle.csv.specs.Records.{fields_of}
 use Rattle.gb_series.specs.Series.{value_of}
-use Rattle.gb_tool.specs.Table.{IsTyped}
 use Rattle.gb_tool.proofs.PushLemmas.{columns_ragged, field_some, text_at, passing_none, pushing_bad, pushing_more, pushing_all}
 use Rattle.gb_tool.proofs.table.column.push_record.Goals as goal
 
@@ -20,13 +18,11 @@ unreachable-requires c =
 pub loop-place-init : goal.loop-place-init
 loop-place-init c = record {
   passing = passing_none c.args.null_word.now (map value_of c.args.columns.now);
-  typed = c.requires.typed;
   room = λ k d low lt. c.requires.room k d lt;
 }
 
 pub push_cell-requires : goal.push_cell-requires
 push_cell-requires c = record {
-  typed = c.loop-place.invariant.typed c.loop-place.place c.index-columns-place.result (omega arith);
   room = c.loop-place.invariant.room c.loop-place.place c.index-columns-place.result (omega arith) (omega arith);
   is_text = λ ascii. text_at (fields_of c.args.fields.now) c.loop-place.place c.in-Some.cell.now (c.is_ascii-is_text.ensures ascii) (sym c.in-Some.ensures.value);
 }
@@ -52,13 +48,12 @@ loop-place-preserved c =
     let at = sym (get_or-map value_of now c.loop-place.place c.index-columns-place.result (value_of column) within) in
     let good = rw c.if-not-branch.false at c.in_ok-push_cell.ensures.ok in
     record {
-      passing = rw (map-set value_of now c.loop-place.place c.push_cell.new.column) (pushing_more c.args.null_word.now (map value_of c.args.columns.now) (fields_of c.args.fields.now)
-          c.loop-place.place (map value_of now) c.loop-place.invariant.passing (value_of column) c.in-Some.cell.now lt at (sym c.in-Some.ensures.value) (value_of c.push_cell.new.column) (sym good));
-      typed = All-set IsTyped now c.loop-place.place c.push_cell.new.column c.in_ok-push_cell.ensures.typed c.loop-place.invariant.typed;
+      passing = rw (map-set value_of now c.loop-place.place c.push_cell.new.self) (pushing_more c.args.null_word.now (map value_of c.args.columns.now) (fields_of c.args.fields.now)
+          c.loop-place.place (map value_of now) c.loop-place.invariant.passing (value_of column) c.in-Some.cell.now lt at (sym c.in-Some.ensures.value) (value_of c.push_cell.new.self) (sym good));
       room = λ k d low high.
           let other : k ≢ c.loop-place.place = omega (arith, low) in
-          let below : k < length now = omega (arith, high, length-set now c.loop-place.place c.push_cell.new.column) in
-          rw (get_or-set_other now c.loop-place.place k c.push_cell.new.column d other) (c.loop-place.invariant.room k d (omega (arith, low)) below);
+          let below : k < length now = omega (arith, high, length-set now c.loop-place.place c.push_cell.new.self) in
+          rw (get_or-set_other now c.loop-place.place k c.push_cell.new.self d other) (c.loop-place.invariant.room k d (omega (arith, low)) below);
     }
 
 pub returns-clause-ok : goal.returns-clause-ok

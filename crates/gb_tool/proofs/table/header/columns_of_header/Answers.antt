@@ -1,14 +1,12 @@
 use Rattle.std.proofs.Common.{◌≡◌, ◌∙◌, ◌∷◌, ◌+◌, [], map, suc, ℕ, List, Some, sym, ap, true, cond, arith}
 use Rattle.std.specs.Str.{bytes_eq}
 use Rattle.std.proofs.lemmas.List.{length-map, map-append}
-use Rattle.std.proofs.lemmas.List.Elements.{All-nil, All-push}
 use Rattle.csv.specs.Records.{fields_of}
 use Rattle.gb_defs.specs.Table.{Head}
 use Rattle.gb_cols.specs.DataType.{type_of}
 use Rattle.gb_series.specs.Series.{value_of}
 use Rattle.gb_tool.specs.Head.{readable_field}
-use Rattle.gb_tool.specs.Table.{IsTyped}
-use Rattle.gb_tool.proofs.HeaderLemmas.{holds, held, unheld, known_head, header_start, header_end, header_unread, header_repeated, header_more}
+use Rattle.gb_tool.proofs.HeaderLemmas.{holds, held, unheld, header_start, header_end, header_unread, header_repeated, header_more}
 use Rattle.gb_tool.proofs.table.header.columns_of_header.Goals as goal
 
 pub loop-field-init : goal.loop-field-init
@@ -20,7 +18,6 @@ loop-field-init c =
         same = start.0;
         made = rw start.1 (header_start (fields_of c.args.header.now) (map value_of c.in_ok-columns.columns.items) c.new-seen.result.keys
             (ap (map value_of) c.in_ok-columns.ensures.items) c.new-seen.ensures.empty);
-        typed = rw c.in_ok-columns.ensures.items (All-nil IsTyped);
       },
     )
 
@@ -59,8 +56,7 @@ loop-field-preserved c =
       tt,
       record {
         same = ap (λ r. r.now) steps.0 ∙ inv.same;
-        made = rw (steps.2, items, map-append value_of c.loop-field.columns.items (c.in_ok-empty_column.field-0 ∷ []), c.in_ok-empty_column.ensures.ok) more;
-        typed = rw items (All-push IsTyped c.loop-field.columns.items c.in_ok-empty_column.field-0 inv.typed (c.in_ok-empty_column.ensures.typed (known_head c.in-Some.field.now head is)));
+        made = rw (steps.2, items, map-append value_of c.loop-field.columns.items (c.in_ok-empty_column.field-0 ∷ []), c.in_ok-empty_column.ensures) more;
       },
     )
 

@@ -7,7 +7,8 @@ use Rattle.csv.specs.declared.parser.State.TheVariants as st
 use Rattle.csv.specs.Records.{fields_of}
 use Rattle.gb_defs.specs.Table.{table}
 use Rattle.gb_series.specs.Series.{value_of}
-use Rattle.gb_tool.specs.Table.{HasRoom, columns_of_header}
+use Rattle.gb_cols.specs.Column.{HasRoom}
+use Rattle.gb_tool.specs.Table.{columns_of_header}
 use Rattle.gb_tool.proofs.ReadingLemmas.{reading_frame, reading_room, refused_too}
 use Rattle.gb_tool.proofs.TakingLemmas.{room_of}
 use Rattle.gb_tool.proofs.PlainLemmas.{plain_start, plain_no_columns, plain_more, plain_end}
@@ -31,7 +32,6 @@ loop-init c =
       row = 1;
       reading = plain_start c.args.null_word.now c.args.bytes.now (fields_of c.in-Some.header) c.in-Some.rest.now some (omega arith) first.0 first.1 read
           (map value_of c.in_ok-columns.columns.items) c.in_ok-columns.ensures.ok;
-      typed = c.in_ok-columns.ensures.typed;
       is_ascii = λ ascii. rw ascii at c.is_ascii-ascii.ensures.cases;
     }
 
@@ -50,7 +50,6 @@ pub push_line-requires : goal.push_line-requires
 push_line-requires c =
     let s = c.loop.invariant in
     rw c.deref_mut.ensures.value (record {
-      typed = s.typed;
       room = All-from_recursion (λ column. HasRoom (value_of column)) c.loop.columns.items
           (room_of c.loop.columns.items (reading_room c.args.null_word.now c.args.bytes.now s.row (map value_of c.loop.columns.items) st.StartRecord c.loop.left.now s.reading c.requires));
       ascii = s.is_ascii;
@@ -60,7 +59,6 @@ pub loop-preserved : goal.loop-preserved
 loop-preserved c =
     let s = c.loop.invariant in
     let line = rw (c.in-Some-2.is, c.deref_mut.ensures.value) at c.in_ok-rest.ensures.ok in
-    let typed = rw c.in-Some-2.is at c.in_ok-rest.ensures.typed in
     let ascii = rw c.in-Some-2.is at c.in_ok-rest.ensures.ascii in
     let first = c.if-not-begins_record-2.ensures in
     let some : 0 < length c.loop.left.now = grind (arith, nat_tests, c.if-is_empty-2.ensures) in
@@ -69,6 +67,5 @@ loop-preserved c =
     rw (take_at new (drop (length new) c.loop.columns.items) c.loop.columns.len long) (record {
       row = s.row + 1;
       reading = plain_more c.args.null_word.now c.args.bytes.now s.row (map value_of c.loop.columns.items) c.loop.left.now s.reading (map value_of new) c.in-Some-2.rest.now some first.0 first.1 line;
-      typed = typed;
       is_ascii = ascii;
     })

@@ -1,8 +1,7 @@
-use Rattle.std.proofs.Common.{◌≡◌, ℕ, List, Bool, map, true, All}
+use Rattle.std.proofs.Common.{◌≡◌, ℕ, List, Bool, map, true}
 use Rattle.std.specs.Str.{IsAscii}
 use Rattle.csv.specs.declared.parser.State.TheVariants as st
 use Rattle.gb_series.specs.Series.{value_of}
-use Rattle.gb_tool.specs.Table.{IsTyped}
 use Rattle.gb_tool.proofs.ReadingLemmas.{IsReading}
 use Rattle.gb_series.specs.declared.series.Series.{Series}
 use Rattle.gb_tool.proofs.table.plain.plain_table.Given as goal
@@ -11,7 +10,6 @@ use Rattle.gb_tool.proofs.table.plain.plain_table.Given as goal
 pub record IsPlainly (null_word bytes : List ℕ) (columns : List Series) (left : List ℕ) (ascii : Bool) : Type 0 where
   pub row : ℕ
   pub reading : IsReading null_word bytes row (map value_of columns) st.StartRecord left
-  pub typed : All IsTyped columns
   pub is_ascii : ascii ≡ true → IsAscii left
 
 abbrev pub invariant-loop : goal.invariant-loop

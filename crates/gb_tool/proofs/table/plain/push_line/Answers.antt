@@ -1,9 +1,7 @@
 use Rattle.std.proofs.Common.{◌≢◌, ◌∙◌, map, ◌<◌, length, get_or, refl, sym, arith, [], ◌++◌, ◌∷◌}
 use Rattle.std.proofs.lemmas.List.{length-map, map-set, get_or-map, get_or-set_other, length-set}
-use Rattle.std.proofs.lemmas.List.Elements.{All-set}
 use Rattle.std.proofs.lemmas.Str.{IsUtf8-from_ascii}
 use Rattle.gb_series.specs.Series.{value_of}
-use Rattle.gb_tool.specs.Table.{IsTyped}
 use Rattle.gb_tool.proofs.PlainLemmas.{cell_ascii, rest_ascii}
 use Rattle.gb_tool.proofs.PushLemmas.{passing_none, passing_more, passing_all}
 use Rattle.gb_tool.proofs.table.plain.push_line.Goals as goal
@@ -13,13 +11,9 @@ loop-column-init c = record {
   done = [];
   read = refl;
   passing = passing_none c.args.null_word.now (map value_of c.args.columns.now);
-  typed = c.requires.typed;
   room = λ k d low lt. c.requires.room k d lt;
   is_ascii = c.requires.ascii;
 }
-
-pub push_cell-requires-clause-typed : goal.push_cell-requires-clause-typed
-push_cell-requires-clause-typed c = c.loop-column.invariant.typed c.loop-column.column-index c.column-item.result (omega arith)
 
 pub push_cell-requires-clause-room : goal.push_cell-requires-clause-room
 push_cell-requires-clause-room c = c.loop-column.invariant.room c.loop-column.column-index c.column-item.result (omega arith) (omega arith)
@@ -41,13 +35,12 @@ loop-column-preserved c =
     record {
       done = s.done ++ c.in-Some.cell.now ∷ [];
       read = read ∙ c.in-Some.ensures.reads s.done;
-      passing = rw (map-set value_of now c.loop-column.column-index c.push_cell.new.column) (passing_more c.args.null_word.now (map value_of c.args.columns.now) s.done
-          c.loop-column.column-index (map value_of now) s.passing (value_of column) c.in-Some.cell.now lt at (value_of c.push_cell.new.column) (sym good));
-      typed = All-set IsTyped now c.loop-column.column-index c.push_cell.new.column c.in_ok-push_cell.ensures.typed s.typed;
+      passing = rw (map-set value_of now c.loop-column.column-index c.push_cell.new.self) (passing_more c.args.null_word.now (map value_of c.args.columns.now) s.done
+          c.loop-column.column-index (map value_of now) s.passing (value_of column) c.in-Some.cell.now lt at (value_of c.push_cell.new.self) (sym good));
       room = λ k d low high.
           let other : k ≢ c.loop-column.column-index = omega (arith, low) in
-          let below : k < length now = omega (arith, high, length-set now c.loop-column.column-index c.push_cell.new.column) in
-          rw (get_or-set_other now c.loop-column.column-index k c.push_cell.new.column d other) (s.room k d (omega (arith, low)) below);
+          let below : k < length now = omega (arith, high, length-set now c.loop-column.column-index c.push_cell.new.self) in
+          rw (get_or-set_other now c.loop-column.column-index k c.push_cell.new.self d other) (s.room k d (omega (arith, low)) below);
       is_ascii = λ ascii. rest_ascii c.loop-column.left.now c.in-Some.cell.now c.in-Some.rest.now c.in-Some.last c.in-Some.ensures (s.is_ascii ascii);
     }
 
@@ -60,9 +53,6 @@ returns-clause-ok c =
       takes = λ row. passing_all c.args.null_word.now (map value_of c.args.columns.now) s.done c.loop-column.column-index (map value_of c.loop-column.columns) s.passing row
           (omega (arith, length-map c.loop-column.columns value_of)) (omega (arith, length-map c.loop-column.columns value_of));
     }
-
-pub returns-clause-typed : goal.returns-clause-typed
-returns-clause-typed c = c.loop-column.invariant.typed
 
 pub returns-clause-ascii : goal.returns-clause-ascii
 returns-clause-ascii c = c.loop-column.invariant.is_ascii

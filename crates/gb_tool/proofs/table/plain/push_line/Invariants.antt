@@ -1,4 +1,4 @@
-use Rattle.std.proofs.Common.{◌≡◌, All, Bool, true, map, ℕ, length, List, []}
+use Rattle.std.proofs.Common.{◌≡◌, Bool, true, map, ℕ, length, List, []}
 use Rattle.std.specs.List.{AllWithin}
 use Rattle.std.specs.Str.{IsAscii}
 use Rattle.csv.specs.declared.parser.State.TheVariants as st
@@ -7,7 +7,7 @@ use Rattle.csv.specs.Reading.{default_config}
 use Rattle.gb_series.specs.declared.series.Series.{Series}
 use Rattle.gb_series.specs.Series.{value_of}
 use Rattle.gb_tool.specs.Plain.{after_cell}
-use Rattle.gb_tool.specs.Table.{HasRoom, IsTyped}
+use Rattle.gb_cols.specs.Column.{HasRoom}
 use Rattle.gb_tool.proofs.PushLemmas.{IsPassing}
 use Rattle.gb_tool.proofs.table.plain.push_line.Given as goal
 
@@ -16,7 +16,6 @@ pub record IsMidway (null_word : List ℕ) (initial : List Series) (text : List 
   pub done : List (List ℕ)
   pub read : next_record default_config st.StartField [] [] text ≡ after_cell ended done left
   pub passing : IsPassing null_word (map value_of initial) done place (map value_of columns)
-  pub typed : All IsTyped columns
   pub room : AllWithin (λ column. HasRoom (value_of column)) columns place (length columns)
   pub is_ascii : ascii ≡ true → IsAscii left
 

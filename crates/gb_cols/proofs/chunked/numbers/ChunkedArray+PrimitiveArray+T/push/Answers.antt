@@ -8,5 +8,5 @@ use Rattle.gb_cols.proofs.chunked.numbers.ChunkedArray+PrimitiveArray+T.push.Goa
 
 pub returns-clause-ok : goal.returns-clause-ok
 returns-clause-ok g c =
-    view_pushed (λ (slots : List Slot). slots) _ _ (flag_of c.self.inside.sorted) _ _ _ (number_slot_of g.T.PolarsNumericType.number c.args.slot) c.in_ok-push.ensures.ok
-    ∙ ap (λ v. pushed v (number_slot_of g.T.PolarsNumericType.number c.args.slot)) c.self.view_is
+    view_pushed (λ (slots : List Slot). slots) _ _ (flag_of c.self.inside.sorted) _ _ _ (number_slot_of g.T.Native.Native.number c.args.slot) c.in_ok-push.ensures.ok
+    ∙ ap (λ v. pushed v (number_slot_of g.T.Native.Native.number c.args.slot)) c.self.view_is

@@ -1,0 +1,34 @@
+-- A column with a cell more: the null word, and any other cell. The text of a cell.
+use Rattle.std.proofs.Common.{◌≡◌, ℕ, List, true, false, None, Some, option_map, refl}
+use Rattle.std.specs.Str.{IsUtf8, bytes_eq, is_utf8}
+use Rattle.std.proofs.lemmas.Bool.{false_from_ne_true}
+use Rattle.std.proofs.lemmas.Str.{IsUtf8-from_is_utf8, is_utf8-from_IsUtf8}
+use Rattle.gb_defs.specs.Cell.{cell_slot, value_of_field}
+use Rattle.gb_defs.specs.Column.{ColumnValue}
+use Rattle.gb_defs.specs.CellText.{cell_text}
+use Rattle.gb_defs.specs.ColumnType.{ColumnType, text}
+use Rattle.gb_defs.specs.Slot.{Slot, Nil, Num, Bytes, Items, is_nil}
+use Rattle.gb_cols.specs.Column.{column_with, pushed}
+
+module _ (null_word cell : List ℕ) (c : ColumnValue) where
+  pub null_cell : bytes_eq cell null_word ≡ true → column_with null_word c cell ≡ Some (pushed c Nil)
+  unfolding cell_slot
+  null_cell e = rw e
+
+  pub value_cell : bytes_eq cell null_word ≡ false → column_with null_word c cell ≡ option_map (pushed c) (value_of_field c.dtype cell)
+  unfolding cell_slot
+  value_cell e = rw e
+
+-- the word for null is not in the text of a value
+pub text_alike : (word other : List ℕ) (t : ColumnType) (slot : Slot) → is_nil slot ≡ false → cell_text word t slot ≡ cell_text other t slot
+text_alike word other t Nil e = cc
+text_alike word other t (Num n) e = refl
+text_alike word other t (Bytes bytes) e = refl
+text_alike word other t (Items parts) e = refl
+
+-- what bytes read as in a column of texts
+pub text_value_some : (bytes : List ℕ) → IsUtf8 bytes → value_of_field text bytes ≡ Some (Bytes bytes)
+text_value_some bytes utf8 = rw (is_utf8-from_IsUtf8 bytes utf8)
+
+pub text_value_none : (bytes : List ℕ) → (IsUtf8 bytes → ⊥) → value_of_field text bytes ≡ None
+text_value_none bytes h = rw (false_from_ne_true (is_utf8 bytes) (λ utf8. h (IsUtf8-from_is_utf8 bytes utf8)))

@@ -1,6 +1,0 @@
-use Rattle.std.proofs.Common.{◌≡◌, map, take}
-use Rattle.gb_defs.specs.Slot.{slot_at}
-use Rattle.gb_cols.proofs.chunked.ChunkedArray.take.Given as goal
-
-abbrev pub invariant-loop-row : goal.invariant-loop-row
-invariant-loop-row g l = g.A.Array.slots l.taken ≡ map (slot_at l.self.slots) (take l.row-index l.rows)

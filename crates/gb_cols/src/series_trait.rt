@@ -1,0 +1,94 @@
+//! What every column can be asked, whatever its type.
+
+ghost use Rattle.std.specs.Prelude.{◌≡◌, ◌==◌, ℕ, ◌+◌, ◌++◌, ◌<◌, ◌^◌, true, not, length, sum, IfOk, IfErr, OnOk, OnErr, All};
+ghost use Rattle.std.specs.Bool.{OnFalse};
+ghost use Rattle.std.specs.List.{count_by};
+ghost use Rattle.std.specs.Str.{IsUtf8};
+ghost use Rattle.gb_defs.specs.Slot.{Nil, is_nil, slot_at};
+ghost use Rattle.gb_defs.specs.Column.{ColumnValue, IsFlagTrue, taken};
+ghost use Rattle.gb_defs.specs.ColumnType.{Fits};
+ghost use Rattle.gb_cols.specs.Column.{HasRoom, TakesCell, cell_of, pushed};
+ghost use Rattle.gb_cols.specs.DataType.{type_of};
+ghost use Rattle.gb_cols.specs.PlSmallStr.{name_of, IsNoMemory};
+ghost use Rattle.gb_cols.specs.Sorted.{flag_of};
+
+use crate::data_type::DataType;
+use crate::error::PolarsResult;
+use crate::nullable_idx::IdxSize;
+use crate::small_str::PlSmallStr;
+use crate::sorted::IsSorted;
+use std::alloc::{AllocError, Global};
+
+/// A named column. Contracts see it as its name, type, slots, chunk lengths and flags.
+pub trait SeriesTrait: Drop {
+    // The column.
+    ghost value: { Self → ColumnValue };
+
+    fn name(&self) -> &PlSmallStr
+        ensures { name_of result.now ≡ (value self.now).name };
+
+    /// What its chunks are allocated by.
+    fn allocator(&self) -> Global;
+
+    fn rename(&mut self, name: PlSmallStr)
+        ensures { value self.new ≡ record (value self.old) { name = name_of name } };
+
+    /// The type. It takes no memory today.
+    fn dtype(&self) -> PolarsResult<DataType>
+        ensures ok { IfOk result (λ dtype. type_of dtype ≡ (value self.now).dtype) }
+        ensures err { IfErr result IsNoMemory };
+
+    /// One pass over the chunks. It also tells what holds of each column's slots and chunks.
+    fn len(&self) -> usize
+        ensures value { result ≡ length (value self.now).slots }
+        ensures small { result < 2 ^ 63 }
+        ensures chunks { sum (value self.now).chunks ≡ length (value self.now).slots }
+        ensures fitting { All (Fits (value self.now).dtype) (value self.now).slots };
+
+    fn is_empty(&self) -> bool
+        ensures { result ≡ (length (value self.now).slots == 0) };
+
+    /// One pass over the chunks.
+    fn null_count(&self) -> usize
+        ensures { result ≡ count_by is_nil (value self.now).slots };
+
+    /// Whether the slot of a row is no null.
+    fn is_valid(&self, row: usize) -> bool
+        requires { row < length (value self.now).slots }
+        ensures { result ≡ not (is_nil (slot_at (value self.now).slots row)) };
+
+    /// What is known of the order of the slots.
+    fn is_sorted_flag(&self) -> IsSorted
+        ensures value { flag_of result ≡ (value self.now).sorted }
+        ensures holds { let c = value self.now in IsFlagTrue c.sorted c.dtype c.slots };
+
+    /// One null more at the end of the last chunk.
+    fn push_null(&mut self) -> PolarsResult<()>
+        requires { HasRoom (value self.old) }
+        ensures ok { OnOk result (value self.new ≡ pushed (value self.old) Nil) }
+        ensures err { IfErr result IsNoMemory }
+        ensures unchanged { OnErr result (value self.new ≡ value self.old) };
+
+    /// The slot that a cell of a table reads as at the end of the last chunk, and whether it reads. A
+    /// cell that is known to be a text is not looked at again. Its error is small, since this is called
+    /// for each cell.
+    fn push_cell(&mut self, cell: &[u8], is_text: bool, null_word: &str) -> Result<bool, AllocError>
+        requires room { HasRoom (value self.old) }
+        requires is_text { is_text ≡ true → IsUtf8 cell.now }
+        ensures ok { IfOk result
+            (TakesCell null_word.now (value self.old) (value self.new) cell.now) }
+        ensures refused { IfOk result (λ took. OnFalse took (value self.new ≡ value self.old)) }
+        ensures unchanged { OnErr result (value self.new ≡ value self.old) };
+
+    /// The text of the slot of a row, behind what is there.
+    fn write_cell(&self, row: usize, null_word: &str, to: &mut Vec<u8>) -> Result<(), AllocError>
+        requires { row < length (value self.now).slots }
+        ensures { let cell = cell_of null_word.now (value self.now) row in
+            OnOk result (to.new.items ≡ to.old.items ++ cell) };
+
+    /// The slots of these rows, in one chunk.
+    fn take(&self, rows: &[IdxSize]) -> PolarsResult<Self>
+        requires { All (λ row. row < length (value self.now).slots) rows.now }
+        ensures ok { IfOk result (λ c. value c ≡ taken rows.now (value self.now)) }
+        ensures err { IfErr result IsNoMemory };
+}

@@ -1,0 +1,115 @@
+-- Keys in a form of their own stand for the slots of a column.
+use Rattle.std.proofs.Common.{◌≡◌, inl, inr, ℕ, ◌<◌, true, false, List, length, map, All, Option, refl, sym, ◌∙◌, ap}
+use Rattle.std.specs.Bool.{Decides}
+use Rattle.std.specs.Borrow.{Bor}
+use Rattle.std.specs.Global.{Global}
+use Rattle.std.specs.Int.{Width, w8, w16, w32, w64, w128}
+use Rattle.std.specs.Prelude.{Vec}
+use Rattle.std.proofs.lemmas.Bool.Decides.{same_from_decides}
+use Rattle.std.proofs.lemmas.List.{get_or-map, length-map}
+use Rattle.gb_defs.specs.Column.{ColumnValue}
+use Rattle.gb_defs.specs.ColumnType.{FlatType, Flat}
+use Rattle.gb_defs.specs.Hash.{hash_of, hash_width, seed_mix}
+use Rattle.gb_defs.specs.Path.{Numbers, ByteLists, flat_kind, kind_of}
+use Rattle.gb_defs.specs.Rows.{StandsFor, rows_of_slots}
+use Rattle.gb_defs.specs.Slot.{Slot, Nil, Num, Bytes, Items, slot_at, slot_eq}
+use Rattle.gb_defs.proofs.SlotLemmas.{Decides-slot_eq}
+use Rattle.gb_cols.specs.Keys.{AreWide, AreWords, IsToldByWide, IsToldByWord, bytes_slot, key_slot, number_from, wide_slot, with_number, word_slot}
+use Rattle.gb_cols.specs.Native.{IsWhole, is_wide, unwidened, unworded}
+use Rattle.gb_paths.specs.Keys.{StandFor}
+use Rattle.gb_paths.specs.declared.keys.Keys.TheVariants.{Words, Wide}
+use Rattle.gb_paths.specs.declared.keys.Keys.TheVariants as keys
+
+-- slots in a form that tells them
+module _ (form back : Slot → Slot) (slots keys : List Slot) (are : keys ≡ map form slots) (told : All (λ slot. back (form slot) ≡ slot) slots) where
+  key_at : (i : ℕ) → i < length slots → slot_at keys i ≡ form (slot_at slots i)
+  key_at i lt = ap (λ ss. slot_at ss i) are ∙ get_or-map form slots i Nil Nil lt
+
+  agree : (i j : ℕ) → i < length slots → j < length slots → slot_eq (slot_at slots i) (slot_at slots j) ≡ slot_eq (slot_at keys i) (slot_at keys j)
+  agree i j low high =
+      let a = slot_at slots i in
+      let b = slot_at slots j in
+      let apart : Decides (slot_eq (form a) (form b)) (a ≡ b) = (
+        λ e. sym (told i Nil low) ∙ ap back ((Decides-slot_eq (form a) (form b)).0 e) ∙ told j Nil high,
+        λ e. (Decides-slot_eq (form a) (form b)).1 (ap form e),
+      ) in
+      rw (key_at i low, key_at j high) (same_from_decides (slot_eq a b) (slot_eq (form a) (form b)) (Decides-slot_eq a b) apart)
+
+  formed_stand : (own width : Width) (seed : ℕ) (mix : ℕ → ℕ) → ((s : Slot) → back (form s) ≡ s → hash_of own seed mix s ≡ hash_of width seed mix (form s)) →
+      StandsFor (rows_of_slots own seed mix slots) (rows_of_slots width seed mix keys)
+  formed_stand own width seed mix alike = record {
+    many = ap length are ∙ length-map slots form;
+    agree = agree;
+    hashed = λ i lt. alike (slot_at slots i) (told i Nil lt) ∙ ap (hash_of width seed mix) (sym (key_at i lt));
+  }
+
+-- a slot that its word tells hashes as the word does
+module _ (t : FlatType) (seed : ℕ) (mix : ℕ → ℕ) where
+  word_hash : (width : Width) → is_wide width ≡ false → (s : Slot) → IsToldByWord t s → hash_of width seed mix s ≡ hash_of w64 seed mix (word_slot s)
+  word_hash width narrow Nil told = refl
+  word_hash w8 narrow (Num n) told = refl
+  word_hash w16 narrow (Num n) told = refl
+  word_hash w32 narrow (Num n) told = refl
+  word_hash w64 narrow (Num n) told = refl
+  word_hash w128 narrow (Num n) told = cc
+  word_hash width narrow (Bytes bytes) told = cc
+  word_hash width narrow (Items parts) told = cc
+
+  wide_hash : (s : Slot) → IsToldByWide t s → hash_of w128 seed mix s ≡ hash_of w128 seed mix (wide_slot s)
+  wide_hash Nil told = refl
+  wide_hash (Num n) told = refl
+  wide_hash (Bytes bytes) told = cc
+  wide_hash (Items parts) told = cc
+
+-- ---- the rows of keys stand for those of the slots
+
+pub words_stand : (t : FlatType) (slots : List Slot) (words : List (Option ℕ)) (width : Width) (seed : ℕ) (mix : ℕ → ℕ) → is_wide width ≡ false → AreWords t slots words →
+    StandsFor (rows_of_slots width seed mix slots) (rows_of_slots w64 seed mix (map key_slot words))
+words_stand t slots words width seed mix narrow stand =
+    formed_stand word_slot (λ slot. with_number (number_from (unworded t)) slot) slots _ stand.are stand.back width w64 seed mix (word_hash t seed mix width narrow)
+
+pub wide_stand : (t : FlatType) (slots : List Slot) (words : List (Option ℕ)) (seed : ℕ) (mix : ℕ → ℕ) → AreWide t slots words →
+    StandsFor (rows_of_slots w128 seed mix slots) (rows_of_slots w128 seed mix (map key_slot words))
+wide_stand t slots words seed mix stand =
+    formed_stand wide_slot (λ slot. with_number (number_from (unwidened t)) slot) slots _ stand.are stand.back w128 w128 seed mix (wide_hash t seed mix)
+
+pub same_stand : (slots keys : List Slot) (width : Width) (seed : ℕ) (mix : ℕ → ℕ) → keys ≡ slots → StandsFor (rows_of_slots width seed mix slots) (rows_of_slots width seed mix keys)
+same_stand slots keys width seed mix same = rw same (record { many = refl; agree = λ i j low high. refl; hashed = λ i lt. refl })
+
+-- ---- the types of whole numbers
+
+pub whole_width : (width : Width) (t : FlatType) → IsWhole width t → hash_width (Flat t) ≡ width
+whole_width width t (inl signed) = rw signed refl
+whole_width width t (inr unsigned) = rw unsigned refl
+
+pub whole_kind : (width : Width) (t : FlatType) → IsWhole width t → flat_kind t ≡ Numbers
+whole_kind width t (inl signed) = rw signed refl
+whole_kind width t (inr unsigned) = rw unsigned refl
+
+pub wide_width : (width : Width) → is_wide width ≡ true → width ≡ w128
+wide_width w8 wide = cc
+wide_width w16 wide = cc
+wide_width w32 wide = cc
+wide_width w64 wide = cc
+wide_width w128 wide = refl
+
+-- ---- keys stand for a column of a flat type
+
+module _ (t : FlatType) (column : ColumnValue) (typed : column.dtype ≡ Flat t) where
+  pub words_stand_for : (words : Vec (Option ℕ) Global) → is_wide (hash_width (Flat t)) ≡ false → flat_kind t ≡ Numbers → AreWords t column.slots words.items → StandFor column (Words words)
+  words_stand_for words narrow kind stand = record {
+    rows = λ seed. rw typed (words_stand t column.slots words.items (hash_width (Flat t)) seed seed_mix narrow stand);
+    kind = ap kind_of typed ∙ kind;
+  }
+
+  pub wide_stand_for : (words : Vec (Option ℕ) Global) → hash_width (Flat t) ≡ w128 → flat_kind t ≡ Numbers → AreWide t column.slots words.items → StandFor column (Wide words)
+  wide_stand_for words wide kind stand = record {
+    rows = λ seed. rw (typed, wide) (wide_stand t column.slots words.items seed seed_mix stand);
+    kind = ap kind_of typed ∙ kind;
+  }
+
+  pub bytes_stand_for : (bytes : Vec (Option (Bor (List ℕ))) Global) → hash_width (Flat t) ≡ w64 → flat_kind t ≡ ByteLists → map bytes_slot bytes.items ≡ column.slots → StandFor column (keys.Bytes bytes)
+  bytes_stand_for bytes width kind same = record {
+    rows = λ seed. rw (typed, width) (same_stand column.slots (map bytes_slot bytes.items) w64 seed seed_mix same);
+    kind = ap kind_of typed ∙ kind;
+  }

@@ -1,0 +1,35 @@
+-- Keys in one of their forms, and what they say of a column.
+use Rattle.std.specs.Prelude.{◌≡◌, ℕ, Bool, true, false, map}
+use Rattle.std.specs.Int.{w64, w128}
+use Rattle.gb_defs.specs.Column.{ColumnValue}
+use Rattle.gb_defs.specs.Hash.{hash_width, seed_mix}
+use Rattle.gb_defs.specs.Path.{KeyKind, Numbers, ByteLists, kind_of}
+use Rattle.gb_defs.specs.Slot as slot
+use Rattle.gb_defs.specs.Rows.{Rows, StandsFor, rows_of_slots}
+use Rattle.gb_cols.specs.Keys.{bytes_slot, key_slot}
+use Rattle.gb_paths.specs.declared.keys.Keys.{Keys}
+use Rattle.gb_paths.specs.declared.keys.Keys.TheVariants.{Words, Wide, Texts, Bytes}
+
+-- the rows of keys, with their hashes under a seed
+abbrev pub rows_of_keys : ℕ → Keys → Rows
+rows_of_keys seed (Words words) = rows_of_slots w64 seed seed_mix (map key_slot words.items)
+rows_of_keys seed (Wide words) = rows_of_slots w128 seed seed_mix (map key_slot words.items)
+rows_of_keys seed (Texts texts) = rows_of_slots w64 seed seed_mix (map (λ t. slot.Bytes t) texts.now)
+rows_of_keys seed (Bytes bytes) = rows_of_slots w64 seed seed_mix (map bytes_slot bytes.items)
+
+abbrev pub are_bytes : Keys → Bool
+are_bytes (Words words) = false
+are_bytes (Wide words) = false
+are_bytes (Texts texts) = true
+are_bytes (Bytes bytes) = true
+
+abbrev pub key_kind : Keys → KeyKind
+key_kind (Words words) = Numbers
+key_kind (Wide words) = Numbers
+key_kind (Texts texts) = ByteLists
+key_kind (Bytes bytes) = ByteLists
+
+-- keys stand for the slots of a column, under any seed
+pub record StandFor (column : ColumnValue) (keys : Keys) : Type 0 where
+  pub rows : (seed : ℕ) → StandsFor (rows_of_slots (hash_width column.dtype) seed seed_mix column.slots) (rows_of_keys seed keys)
+  pub kind : kind_of column.dtype ≡ key_kind keys

@@ -1,6 +1,0 @@
-use Rattle.std.proofs.Common.{◌≡◌, ◌<◌, ◌^◌, drop}
-use Rattle.gb_tool.proofs.CellLemmas.{magnitude_after}
-use Rattle.gb_tool.proofs.table.cell.long_magnitude.Given as goal
-
-abbrev pub invariant-loop-digit : goal.invariant-loop-digit
-invariant-loop-digit l = (magnitude_after l.value (drop l.digit-index l.digits) ≡ magnitude_after 0 l.digits) × (l.value < 2 ^ 64)
