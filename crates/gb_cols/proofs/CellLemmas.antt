@@ -1,12 +1,10 @@
 -- A column with a cell more: the null word, and any other cell. The text of a cell.
-use Rattle.std.proofs.Common.{◌≡◌, ℕ, List, true, false, None, Some, option_map, refl}
-use Rattle.std.specs.Str.{IsUtf8, bytes_eq, is_utf8}
-use Rattle.std.proofs.lemmas.Bool.{false_from_ne_true}
-use Rattle.std.proofs.lemmas.Str.{IsUtf8-from_is_utf8, is_utf8-from_IsUtf8}
+use Rattle.std.proofs.Common.{◌≡◌, ℕ, List, true, false, Some, option_map, refl}
+use Rattle.std.specs.Str.{bytes_eq}
 use Rattle.gb_defs.specs.Cell.{cell_slot, value_of_field}
 use Rattle.gb_defs.specs.Column.{ColumnValue}
 use Rattle.gb_defs.specs.CellText.{cell_text}
-use Rattle.gb_defs.specs.ColumnType.{ColumnType, text}
+use Rattle.gb_defs.specs.ColumnType.{ColumnType}
 use Rattle.gb_defs.specs.Slot.{Slot, Nil, Num, Bytes, Items, is_nil}
 use Rattle.gb_cols.specs.Column.{column_with, pushed}
 
@@ -25,10 +23,3 @@ text_alike word other t Nil e = cc
 text_alike word other t (Num n) e = refl
 text_alike word other t (Bytes bytes) e = refl
 text_alike word other t (Items parts) e = refl
-
--- what bytes read as in a column of texts
-pub text_value_some : (bytes : List ℕ) → IsUtf8 bytes → value_of_field text bytes ≡ Some (Bytes bytes)
-text_value_some bytes utf8 = rw (is_utf8-from_IsUtf8 bytes utf8)
-
-pub text_value_none : (bytes : List ℕ) → (IsUtf8 bytes → ⊥) → value_of_field text bytes ≡ None
-text_value_none bytes h = rw (false_from_ne_true (is_utf8 bytes) (λ utf8. h (IsUtf8-from_is_utf8 bytes utf8)))

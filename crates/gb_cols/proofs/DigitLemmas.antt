@@ -23,7 +23,7 @@ numeral_tells (d ∷ ds) =
 
 -- ---- digits, from the left
 
-grows : (ds : List ℕ) (n : ℕ) → n ≤ digits_value_after 10 n ds
+pub grows : (ds : List ℕ) (n : ℕ) → n ≤ digits_value_after 10 n ds
 grows [] n = omega arith
 grows (d ∷ ds) n = omega (arith, grows ds (n * 10 + digit_value d))
 

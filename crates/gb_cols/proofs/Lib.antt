@@ -1,7 +1,13 @@
 pub mod CellLemmas
 pub mod ChunkedLemmas
+pub mod DecimalLemmas
+pub mod DecimalTextLemmas
 pub mod DigitLemmas
 pub mod FlagLemmas
+pub mod HexLemmas
 pub mod KeyLemmas
+pub mod LogicalLemmas
+pub mod NullLemmas
 pub mod NumberLemmas
-pub mod TextLemmas
+pub mod PieceLemmas
+pub mod ValueLemmas

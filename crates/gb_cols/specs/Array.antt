@@ -1,10 +1,10 @@
 -- The slots of the storages.
-use Rattle.std.specs.Prelude.{◌≡◌, ◌⊎◌, ◌≤◌, ◌<◌, ℕ, zero, suc, ◌-◌, ℤ, List, [], ◌∷◌, take, drop, length, replicate, get_or, ◌++◌, Bool, true, if◌then◌else◌, Option, None, Some, option_map, IsUtf8, Vec, vec_len, vec_capacity}
+use Rattle.std.specs.Prelude.{◌≡◌, ◌⊎◌, ◌≤◌, ◌<◌, ℕ, zero, suc, ◌-◌, ℤ, pos, List, [], ◌∷◌, take, drop, length, replicate, get_or, ◌++◌, Bool, true, false, if◌then◌else◌, Option, None, Some, option_map, Vec, vec_len, vec_capacity}
 use Rattle.std.specs.Global.{Global}
 use Rattle.std.specs.List.{AllByRecursion}
 use Rattle.std.specs.Borrow.{Bor}
 use Rattle.gb_defs.specs.Cell.{value_of_field}
-use Rattle.gb_defs.specs.ColumnType.{ColumnType}
+use Rattle.gb_defs.specs.ColumnType.{ColumnType, FlatType, FitsBytes}
 use Rattle.gb_defs.specs.Slot.{Slot, Nil, Num, Bytes}
 
 -- values with a flag each, null where it is false
@@ -28,9 +28,18 @@ abbrev pub FitsFlags : ℕ → ℕ → Type 0
 FitsFlags flags values = (flags ≡ 0) ⊎ (flags ≡ values)
 
 -- the slot of a number that may be missing
-abbrev pub number_slot_of : {N : Type 0} → (N → ℤ) → Option N → Slot
-number_slot_of number None = Nil
-number_slot_of number (Some n) = Num (number n)
+abbrev pub native_slot : {N : Type 0} → (N → ℤ) → Option N → Slot
+native_slot number None = Nil
+native_slot number (Some n) = Num (number n)
+
+-- the number that a flag is
+abbrev pub flag_number : Bool → ℤ
+flag_number true = pos 1
+flag_number false = pos 0
+
+-- the slot of a flag
+abbrev pub flag_slot : Bool → Slot
+flag_slot flag = Num (flag_number flag)
 
 -- the pieces of the bytes that end at these places, after a start
 abbrev pub pieces_from : ℕ → List ℕ → List ℕ → List (List ℕ)
@@ -47,10 +56,10 @@ abbrev pub Rises : ℕ → List ℕ → ℕ → Type 0
 Rises start [] last = start ≡ last
 Rises start (end ∷ ends) last = (start ≤ end) × Rises end ends last
 
--- the places cut all of the bytes into texts
-pub record AreTexts (bytes ends : List ℕ) : Type 0 where
+-- the places cut all of the bytes into values of a type
+pub record ArePieces (t : FlatType) (bytes ends : List ℕ) : Type 0 where
   pub rises : Rises 0 ends (length bytes)
-  pub texts : AllByRecursion IsUtf8 (pieces_from 0 ends bytes)
+  pub fitting : AllByRecursion (FitsBytes t) (pieces_from 0 ends bytes)
 
 -- the slot of a text that may be missing
 abbrev pub text_slot : Option (Bor (List ℕ)) → Slot

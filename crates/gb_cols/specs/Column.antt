@@ -9,9 +9,9 @@ use Rattle.gb_cols.specs.Array.{if_taken}
 use Rattle.gb_defs.specs.Column.{ColumnValue, IsFlagTrue, NotSorted, SortedFlag}
 
 -- the column of these chunks
-abbrev pub column_of : {A : Type 0} → (A → List Slot) → ColumnType → List ℕ → SortedFlag → List A → ColumnValue
-column_of slots dtype name flag chunks =
-    record { name = name; dtype = dtype; slots = flat_map slots chunks; chunks = map (λ a. length (slots a)) chunks; sorted = flag; all_used = false }
+abbrev pub column_of : ColumnType → List ℕ → SortedFlag → List (List Slot) → ColumnValue
+column_of dtype name flag chunks =
+    record { name = name; dtype = dtype; slots = flat_map (λ chunk. chunk) chunks; chunks = map length chunks; sorted = flag; all_used = false }
 
 -- the flag is true, and the slots are fewer than 2^63
 pub record IsSmallColumn (c : ColumnValue) : Type 0 where
@@ -31,6 +31,10 @@ pushed c slot = record { name = c.name; dtype = c.dtype; slots = c.slots ++ slot
 -- the column with another's slots and chunks behind its own, and no flag
 abbrev pub appended : ColumnValue → ColumnValue → ColumnValue
 appended c other = record { name = c.name; dtype = c.dtype; slots = c.slots ++ other.slots; chunks = c.chunks ++ other.chunks; sorted = NotSorted; all_used = false }
+
+-- the column with no flag
+abbrev pub unflagged : ColumnValue → ColumnValue
+unflagged c = record { name = c.name; dtype = c.dtype; slots = c.slots; chunks = c.chunks; sorted = NotSorted; all_used = false }
 
 -- there is room for one slot more
 abbrev pub HasRoom : ColumnValue → Type 0

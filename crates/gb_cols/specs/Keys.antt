@@ -6,7 +6,7 @@ use Rattle.std.specs.Borrow.{Bor}
 use Rattle.gb_defs.specs.ColumnType.{FlatType}
 use Rattle.gb_defs.specs.Hash.{word_of}
 use Rattle.gb_defs.specs.Slot.{Slot, Nil, Num, Bytes}
-use Rattle.gb_cols.specs.Array.{number_slot_of}
+use Rattle.gb_cols.specs.Array.{native_slot}
 use Rattle.gb_cols.specs.Native.{unworded, unwidened}
 
 -- the slot of another number, null where there is none
@@ -28,7 +28,7 @@ wide_slot slot = with_number (λ n. pos (cast_unsigned w128 n)) slot
 
 -- the slot of a key that is a number with no sign, or null
 abbrev pub key_slot : Option ℕ → Slot
-key_slot key = number_slot_of (λ n. pos n) key
+key_slot key = native_slot (λ n. pos n) key
 
 -- the key that a number is, by its word and by its wide word
 abbrev pub word_key : Slot → Option ℕ

@@ -1,13 +1,17 @@
 pub mod Array
+pub mod ByteKind
 pub mod Column
 pub mod DataType
+pub mod Decimal
 pub mod Device
 pub mod ErrorText
 pub mod FitsPool
 pub mod Keys
+pub mod Logical
 pub mod Memory
 pub mod Native
 pub mod NoNil
+pub mod Null
 pub mod NullableIdx
 pub mod PlSmallStr
 pub mod PolarsError

@@ -1,41 +1,37 @@
-//! Named columns of any storage.
+//! Named columns of any values.
 
 ghost use Rattle.std.specs.Prelude.{◌≡◌, ◌+◌, ◌<◌, ◌^◌, [], true, length, option_map, IfOk, IfErr, OnOk, OnErr};
 ghost use Rattle.std.specs.Bool.{OnFalse};
 ghost use Rattle.std.specs.Str.{IsUtf8};
 ghost use Rattle.gb_defs.specs.Slot.{Nil, slot_at};
 
-mod numbers;
-mod texts;
-
-use crate::array::Array;
-use crate::data_type::DataType;
+use crate::data_type::{DataType, IsSorted};
 use crate::error::{PolarsError, PolarsResult};
+use crate::nullable::{NullableArray, Values};
 use crate::nullable_idx::IdxSize;
 use crate::series_trait::SeriesTrait;
 use crate::small_str::PlSmallStr;
-use crate::sorted::IsSorted;
-use crate::utf8::Utf8Array;
+use crate::utf8::TextValues;
 use std::alloc::{AllocError, Global};
 use std::marker::Model;
 use std::mem;
 
-/// A named column of any storage: its chunks in order, the last one apart, so that there is one always.
+/// A named column of any values: its chunks in order, the last one apart, so that there is one always.
 #[derive(Drop)]
-pub struct ChunkedArray<A: Array> {
+pub struct ChunkedArray<V: Values> {
     name: PlSmallStr,
-    earlier: Vec<A>,
-    last: A,
-    sorted: IsSorted,
+    pub(crate) earlier: Vec<NullableArray<V>>,
+    pub(crate) last: NullableArray<V>,
+    pub(crate) sorted: IsSorted,
 }
 
 pub use crate::numeric::{Int64Chunked, UInt32Chunked};
 
 pub type IdxCa = UInt32Chunked;
 
-pub type StringChunked = ChunkedArray<Utf8Array>;
+pub type StringChunked = ChunkedArray<TextValues>;
 
-impl<A: Array> Model for ChunkedArray<A> {
+impl<V: Values> Model for ChunkedArray<V> {
     ghost use Rattle.std.specs.Prelude.{◌++◌, ◌∷◌, []};
     ghost use Rattle.gb_defs.specs.Column.{ColumnValue, column_code};
     ghost use Rattle.gb_cols.specs.Column.{column_of, IsSmallColumn};
@@ -46,14 +42,14 @@ impl<A: Array> Model for ChunkedArray<A> {
 
     ghost coded = { column_code };
 
-    ghost view = { λ c. column_of A.slots A.dtype (name_of c.name) (flag_of c.sorted)
+    ghost view = { λ c. column_of V.dtype (name_of c.name) (flag_of c.sorted)
         (c.earlier.items ++ c.last ∷ []) };
 
-    ghost invariant = { λ c. IsSmallColumn (column_of A.slots A.dtype (name_of c.name)
+    ghost invariant = { λ c. IsSmallColumn (column_of V.dtype (name_of c.name)
         (flag_of c.sorted) (c.earlier.items ++ c.last ∷ [])) };
 }
 
-impl<A: Array> SeriesTrait for ChunkedArray<A> {
+impl<V: Values> SeriesTrait for ChunkedArray<V> {
     ghost use Rattle.std.specs.Prelude.{◌≡◌};
     ghost use Rattle.gb_cols.specs.PlSmallStr.{name_of};
 
@@ -61,13 +57,13 @@ impl<A: Array> SeriesTrait for ChunkedArray<A> {
 
     fn name(&self) -> &PlSmallStr
         ensures name { name_of result.now ≡ self.now.name }
-        ensures typed { self.now.dtype ≡ A.dtype }
+        ensures typed { self.now.dtype ≡ V.dtype }
     {
         &self.name
     }
 
     fn allocator(&self) -> Global
-        ensures typed { self.now.dtype ≡ A.dtype }
+        ensures typed { self.now.dtype ≡ V.dtype }
     {
         *self.earlier.allocator()
     }
@@ -79,7 +75,7 @@ impl<A: Array> SeriesTrait for ChunkedArray<A> {
     fn dtype(&self) -> PolarsResult<DataType> {
         // The use of a field brings in the type's invariant.
         let _ = &self.name;
-        Ok(A::data_type())
+        Ok(V::data_type())
     }
 
     fn len(&self) -> usize {
@@ -136,7 +132,7 @@ impl<A: Array> SeriesTrait for ChunkedArray<A> {
     }
 
     fn take(&self, rows: &[IdxSize]) -> PolarsResult<Self> {
-        let mut taken = A::empty(self.allocator());
+        let mut taken: NullableArray<V> = NullableArray::empty(self.allocator());
         taken.reserve(rows.len())?;
         for row in rows {
             let (chunk, place) = self.locate(*row as usize);
@@ -151,28 +147,28 @@ impl<A: Array> SeriesTrait for ChunkedArray<A> {
     }
 }
 
-impl<A: Array> ChunkedArray<A> {
+impl<V: Values> ChunkedArray<V> {
     ghost use Rattle.gb_cols.specs.Array.{if_taken};
-    ghost use Rattle.gb_cols.specs.Column.{HasRoom, appended, pushed};
+    ghost use Rattle.gb_cols.specs.Column.{HasRoom, appended, pushed, unflagged};
     ghost use Rattle.gb_cols.specs.PlSmallStr.{name_of, IsNoMemory};
     ghost use Rattle.gb_defs.specs.Cell.{value_of_field};
     ghost use Rattle.gb_defs.specs.Column.{fresh_column};
 
     /// No slots.
     pub fn new(alloc: Global, name: PlSmallStr) -> Self
-        ensures { result ≡ fresh_column (name_of name) A.dtype [] }
+        ensures { result ≡ fresh_column (name_of name) V.dtype [] }
     {
         ChunkedArray {
             name,
             earlier: Vec::new(alloc),
-            last: A::empty(alloc),
+            last: NullableArray::empty(alloc),
             sorted: IsSorted::Not,
         }
     }
 
     // The column of one chunk.
-    fn from_chunk(alloc: Global, name: PlSmallStr, chunk: A) -> Self
-        ensures { result ≡ fresh_column (name_of name) A.dtype (A.slots chunk) }
+    pub(crate) fn from_chunk(alloc: Global, name: PlSmallStr, chunk: NullableArray<V>) -> Self
+        ensures { result ≡ fresh_column (name_of name) V.dtype chunk }
     {
         // Its clauses say that the chunk is not too long.
         let _ = chunk.len();
@@ -182,6 +178,15 @@ impl<A: Array> ChunkedArray<A> {
             last: chunk,
             sorted: IsSorted::Not,
         }
+    }
+
+    // The column with no flag.
+    pub(crate) fn unflagged(mut self) -> Self
+        ensures value { result ≡ unflagged self }
+        ensures typed { self.dtype ≡ V.dtype }
+    {
+        self.sorted = IsSorted::Not;
+        self
     }
 
     /// Makes room for so many slots more in the last chunk.
@@ -219,7 +224,7 @@ impl<A: Array> ChunkedArray<A> {
 
     // One null more at the end of the last chunk.
     #[inline]
-    fn put_null(&mut self) -> Result<(), AllocError>
+    pub(crate) fn put_null(&mut self) -> Result<(), AllocError>
         requires { HasRoom self.old }
         ensures ok { OnOk result (self.new ≡ pushed self.old Nil) }
         ensures unchanged { OnErr result (self.new ≡ self.old) }
@@ -247,11 +252,11 @@ impl<A: Array> ChunkedArray<A> {
     }
 
     // The chunk that a row stands in, and its place there.
-    fn locate(&self, row: usize) -> (&A, usize)
+    pub(crate) fn locate(&self, row: usize) -> (&NullableArray<V>, usize)
         requires { row < length self.now.slots }
-        ensures inside { result.1 < length (A.slots result.0.now) }
-        ensures slot { slot_at (A.slots result.0.now) result.1 ≡ slot_at self.now.slots row }
-        ensures typed { self.now.dtype ≡ A.dtype }
+        ensures inside { result.1 < length result.0.now }
+        ensures slot { slot_at result.0.now result.1 ≡ slot_at self.now.slots row }
+        ensures typed { self.now.dtype ≡ V.dtype }
     {
         let mut place = row;
         for chunk in &self.earlier {

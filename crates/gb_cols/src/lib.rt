@@ -3,13 +3,18 @@
 //! from and go to, and the gate that pieces of work pass.
 #![tactic(auto)]
 
-pub mod array;
+pub mod binary;
+pub mod boolean;
+pub mod bytes;
 pub mod chunked;
 pub mod data_type;
+mod decimal_cell;
 pub mod device;
 pub mod error;
+mod hex_cell;
+pub mod logical;
 pub mod memory;
-pub mod native;
+pub mod null;
 pub mod nullable;
 pub mod nullable_idx;
 mod number_cell;
@@ -18,10 +23,8 @@ pub mod pool;
 pub mod primitive;
 pub mod series_trait;
 pub mod small_str;
-pub mod sorted;
 pub mod standard;
 #[cfg(test)]
 mod tests;
 pub mod utf8;
 mod validity;
-pub mod values;

@@ -1,14 +1,79 @@
-//! Values that may be null: the storage of every column with a buffer of its own.
+//! Values in a row, and such values that may be null: the storage of every column with a buffer of its
+//! own.
 
-ghost use Rattle.std.specs.Prelude.{◌≡◌, ◌++◌, ◌∷◌, ◌<◌, [], List, length, OnOk, OnErr};
-ghost use Rattle.gb_defs.specs.Slot.{slot_at};
+ghost use Rattle.std.specs.Prelude.{◌≡◌, ◌++◌, ◌∷◌, ◌<◌, ◌^◌, [], List, length, not, true, false, All, IfOk, OnOk, OnErr};
+ghost use Rattle.std.specs.List.{AllByRecursion, count_by};
+ghost use Rattle.std.specs.Bool.{OnFalse};
+ghost use Rattle.std.specs.Str.{IsUtf8};
+ghost use Rattle.gb_defs.specs.CellText.{cell_text};
+ghost use Rattle.gb_defs.specs.ColumnType.{ColumnType, Fits};
+ghost use Rattle.gb_defs.specs.Slot.{Slot, Nil, is_nil, slot_at};
+ghost use Rattle.gb_cols.specs.Array.{HasOneMore, TakesField};
+ghost use Rattle.gb_cols.specs.DataType.{type_of};
 
-use crate::array::Array;
 use crate::data_type::DataType;
 use crate::validity::Validity;
-use crate::values::Values;
 use std::alloc::{AllocError, Global};
 use std::marker::Model;
+
+/// Values in a row, none of them null.
+pub trait Values: Drop {
+    // The values, as slots.
+    ghost slots: { Self → List Slot };
+
+    // The type of a column of these values.
+    ghost dtype: { ColumnType };
+
+    /// No values, and no memory.
+    fn empty(alloc: Global) -> Self
+        ensures { slots result ≡ [] };
+
+    fn data_type() -> DataType
+        ensures { type_of result ≡ dtype };
+
+    /// How many values there are. Each fits the type.
+    fn len(&self) -> usize
+        ensures value { result ≡ length (slots self.now) }
+        ensures small { result < 2 ^ 63 }
+        ensures fitting { All (Fits dtype) (slots self.now) };
+
+    /// Makes room for so many values more, as far as their number tells how much that is.
+    fn reserve(&mut self, additional: usize) -> Result<(), AllocError>
+        ensures { slots self.new ≡ slots self.old };
+
+    /// Some value more, on which a null stands.
+    fn push_filler(&mut self) -> Result<(), AllocError>
+        ensures ok { OnOk result (HasOneMore (slots self.old) (slots self.new)) }
+        ensures err { OnErr result (slots self.new ≡ slots self.old) };
+
+    /// The other's value at a place, once more at the end.
+    fn push_from(&mut self, other: &Self, i: usize) -> Result<(), AllocError>
+        requires { i < length (slots other.now) }
+        ensures ok { OnOk result
+            (slots self.new ≡ slots self.old ++ slot_at (slots other.now) i ∷ []) }
+        ensures err { OnErr result (slots self.new ≡ slots self.old) };
+
+    /// The value that a table's cell reads as at the end, and whether it reads. A cell that is known to
+    /// be a text is not looked at again.
+    fn push_cell(&mut self, cell: &[u8], is_text: bool) -> Result<bool, AllocError>
+        requires { is_text ≡ true → IsUtf8 cell.now }
+        ensures ok { IfOk result (TakesField dtype (slots self.old) (slots self.new) cell.now) }
+        ensures refused { IfOk result (λ took. OnFalse took (slots self.new ≡ slots self.old)) }
+        ensures err { OnErr result (slots self.new ≡ slots self.old) };
+
+    /// The text of the value at a place, behind what is there.
+    fn write_cell(&self, i: usize, to: &mut Vec<u8>) -> Result<(), AllocError>
+        requires { i < length (slots self.now) }
+        ensures { let text = cell_text [] dtype (slot_at (slots self.now) i) in
+            OnOk result (to.new.items ≡ to.old.items ++ text) };
+
+    /// The same values.
+    fn try_clone(&self) -> Result<Self, AllocError>
+        ensures { IfOk result (λ copy. slots copy ≡ slots self.now) };
+
+    // No value is a null.
+    ghost none_null: { (v : Self) → AllByRecursion (λ slot. is_nil slot ≡ false) (slots v) };
+}
 
 /// Values that may be null: the values, and which of them are valid; no flags where none is null.
 #[derive(Drop)]
@@ -32,83 +97,70 @@ impl<V: Values> Model for NullableArray<V> {
     ghost invariant = { λ a. FitsFlags (length a.validity.flags.items) (length (V.slots a.values)) };
 }
 
-impl<V: Values> Array for NullableArray<V> {
-    ghost slots = { λ a. a };
-
-    ghost dtype = { V.dtype };
-
-    fn empty(alloc: Global) -> Self {
+impl<V: Values> NullableArray<V> {
+    /// No slots, and no memory.
+    pub fn empty(alloc: Global) -> Self
+        ensures { result ≡ [] }
+    {
         NullableArray {
             values: V::empty(alloc),
             validity: Validity::new(alloc),
         }
     }
 
-    fn data_type() -> DataType {
-        V::data_type()
-    }
-
-    fn len(&self) -> usize {
+    /// How many slots there are. Each fits the type.
+    pub fn len(&self) -> usize
+        ensures value { result ≡ length self.now }
+        ensures small { result < 2 ^ 63 }
+        ensures fitting { All (Fits V.dtype) self.now }
+    {
         self.values.len()
     }
 
-    fn is_valid(&self, i: usize) -> bool {
+    /// Whether the slot at a place is no null.
+    pub fn is_valid(&self, i: usize) -> bool
+        requires { i < length self.now }
+        ensures { result ≡ not (is_nil (slot_at self.now i)) }
+    {
         self.validity.is_valid(i)
     }
 
-    fn null_count(&self) -> usize {
+    pub fn null_count(&self) -> usize
+        ensures { result ≡ count_by is_nil self.now }
+    {
         self.validity.null_count()
     }
 
-    fn reserve(&mut self, additional: usize) -> Result<(), AllocError> {
+    /// Makes room for so many slots more, as far as their number tells how much that is.
+    pub fn reserve(&mut self, additional: usize) -> Result<(), AllocError>
+        ensures { self.new ≡ self.old }
+    {
         self.values.reserve(additional)
     }
 
-    fn push_null(&mut self) -> Result<(), AllocError> {
+    /// One null more at the end.
+    pub fn push_null(&mut self) -> Result<(), AllocError>
+        ensures ok { OnOk result (self.new ≡ self.old ++ Nil ∷ []) }
+        ensures err { OnErr result (self.new ≡ self.old) }
+    {
         self.validity.fill(self.values.len())?;
         self.values.push_filler()?;
         self.validity.push_reserved_null();
         Ok(())
     }
 
-    fn push_from(&mut self, other: &Self, i: usize) -> Result<(), AllocError> {
+    /// The other's slot at a place, once more at the end.
+    pub fn push_from(&mut self, other: &Self, i: usize) -> Result<(), AllocError>
+        requires { i < length other.now }
+        ensures ok { OnOk result (self.new ≡ self.old ++ slot_at other.now i ∷ []) }
+        ensures err { OnErr result (self.new ≡ self.old) }
+    {
         if other.validity.is_valid(i) {
             self.push_value(other, i)
         } else {
             self.push_null()
         }
     }
-
-    #[inline(always)]
-    fn push_cell(&mut self, cell: &[u8], is_text: bool) -> Result<bool, AllocError> {
-        self.validity.reserve_one()?;
-        if !self.values.push_cell(cell, is_text)? {
-            return Ok(false);
-        }
-        self.validity.push_reserved_valid();
-        Ok(true)
-    }
-
-    fn write_cell(&self, i: usize, null_word: &str, to: &mut Vec<u8>) -> Result<(), AllocError> {
-        if self.validity.is_valid(i) {
-            self.values.write_cell(i, to)
-        } else {
-            to.extend_from_slice(null_word.as_bytes())?;
-            Ok(())
-        }
-    }
-
-    fn try_clone(&self) -> Result<Self, AllocError> {
-        Ok(NullableArray {
-            values: self.values.try_clone()?,
-            validity: self.validity.try_clone()?,
-        })
-    }
-}
-
-impl<V: Values> NullableArray<V> {
-    ghost use Rattle.std.specs.Prelude.{◌≡◌, ◌<◌, ◌++◌, ◌∷◌, [], length, false, OnOk, OnErr};
-    ghost use Rattle.gb_defs.specs.Slot.{slot_at, is_nil};
 
     // The other's valid value at a place, once more at the end.
     fn push_value(&mut self, other: &Self, i: usize) -> Result<(), AllocError>
@@ -121,5 +173,46 @@ impl<V: Values> NullableArray<V> {
         self.values.push_from(&other.values, i)?;
         self.validity.push_reserved_valid();
         Ok(())
+    }
+
+    /// The slot that a table's cell reads as at the end, and whether it reads. A cell that is known to be
+    /// a text is not looked at again; the null word is for the caller to meet.
+    #[inline(always)]
+    pub fn push_cell(&mut self, cell: &[u8], is_text: bool) -> Result<bool, AllocError>
+        requires { is_text ≡ true → IsUtf8 cell.now }
+        ensures ok { IfOk result (TakesField V.dtype self.old self.new cell.now) }
+        ensures refused { IfOk result (λ took. OnFalse took (self.new ≡ self.old)) }
+        ensures err { OnErr result (self.new ≡ self.old) }
+    {
+        self.validity.reserve_one()?;
+        if !self.values.push_cell(cell, is_text)? {
+            return Ok(false);
+        }
+        self.validity.push_reserved_valid();
+        Ok(true)
+    }
+
+    /// The text of the slot at a place, behind what is there.
+    pub fn write_cell(&self, i: usize, null_word: &str, to: &mut Vec<u8>) -> Result<(), AllocError>
+        requires { i < length self.now }
+        ensures { let text = cell_text null_word.now V.dtype (slot_at self.now i) in
+            OnOk result (to.new.items ≡ to.old.items ++ text) }
+    {
+        if self.validity.is_valid(i) {
+            self.values.write_cell(i, to)
+        } else {
+            to.extend_from_slice(null_word.as_bytes())?;
+            Ok(())
+        }
+    }
+
+    /// The same slots.
+    pub fn try_clone(&self) -> Result<Self, AllocError>
+        ensures { IfOk result (λ copy. copy ≡ self.now) }
+    {
+        Ok(NullableArray {
+            values: self.values.try_clone()?,
+            validity: self.validity.try_clone()?,
+        })
     }
 }

@@ -6,8 +6,8 @@ ghost use Rattle.std.specs.Str.Parse.{starts_with_minus, without_leading_plus, w
 ghost use Rattle.gb_defs.specs.Slot.{Num};
 ghost use Rattle.gb_defs.specs.Cell.{magnitude, magnitude_within, signed_value, unsigned_value};
 
-// Whether a minus stands in front, and what stands behind a sign.
-fn without_sign(cell: &[u8]) -> (bool, &[u8])
+/// Whether a minus stands in front, and what stands behind a sign.
+pub(crate) fn without_sign(cell: &[u8]) -> (bool, &[u8])
     ensures negative { result.0 ≡ starts_with_minus cell.now }
     ensures rest { result.1.now ≡ without_leading_sign cell.now }
 {

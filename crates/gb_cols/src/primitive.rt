@@ -1,20 +1,23 @@
-//! Numbers in a row, and the storage of columns of numbers.
+//! Numbers in a row, and columns of numbers.
 
-ghost use Rattle.std.specs.Prelude.{◌≡◌, ◌++◌, ◌∷◌, ◌<◌, [], length, false, map, get_or, pos, IfOk, OnOk, OnErr};
+ghost use Rattle.std.specs.Prelude.{◌≡◌, ℕ, ◌++◌, ◌∷◌, ◌<◌, [], length, false, map, get_or, pos, IfOk, IfErr, OnOk, OnErr};
+ghost use Rattle.gb_defs.specs.Column.{fresh_column};
 ghost use Rattle.gb_defs.specs.ColumnType.{Flat};
 ghost use Rattle.gb_defs.specs.Slot.{Num, slot_at};
-ghost use Rattle.gb_cols.specs.Array.{number_slot_of};
-ghost use Rattle.gb_cols.specs.Keys.{HasWideMore, HasWordsMore, IsToldByWide, IsToldByWord, wide_key, word_key};
+ghost use Rattle.gb_cols.specs.Array.{native_slot};
+ghost use Rattle.gb_cols.specs.Column.{HasRoom, pushed};
+ghost use Rattle.gb_cols.specs.Keys.{AreWide, AreWords, HasWideMore, HasWordsMore, IsToldByWide, IsToldByWord, wide_key, word_key};
+ghost use Rattle.gb_cols.specs.PlSmallStr.{name_of, IsNoMemory};
 ghost use Rattle.gb_cols.specs.Native.{is_wide};
 ghost use Rattle.gb_cols.specs.NoNil.{numbers_no_nil};
 
-use crate::array::Array;
-use crate::data_type::DataType;
-use crate::native::Native;
-use crate::nullable::NullableArray;
-use crate::numeric::PolarsNumericType;
-use crate::values::Values;
-use itoa::Buffer;
+use crate::chunked::ChunkedArray;
+use crate::data_type::{DataType, IsSorted};
+use crate::error::PolarsResult;
+use crate::nullable::{NullableArray, Values};
+use crate::numeric::{Native, PolarsNumericType, write_number};
+use crate::series_trait::SeriesTrait;
+use crate::small_str::PlSmallStr;
 use std::alloc::{AllocError, Global};
 use std::marker::Model;
 
@@ -111,9 +114,7 @@ impl<T: PolarsNumericType> Values for NumberValues<T> {
     }
 
     fn write_cell(&self, i: usize, to: &mut Vec<u8>) -> Result<(), AllocError> {
-        let mut digits = Buffer::new();
-        to.extend_from_slice(digits.format(self.get(i)).as_bytes())?;
-        Ok(())
+        write_number(self.get(i), to)
     }
 
     fn try_clone(&self) -> Result<Self, AllocError> {
@@ -140,7 +141,7 @@ impl<T: PolarsNumericType> NullableArray<NumberValues<T>> {
     #[inline]
     pub fn get(&self, i: usize) -> Option<T::Native>
         requires { i < length self.now }
-        ensures { number_slot_of T.Native.number result ≡ slot_at self.now i }
+        ensures { native_slot T.Native.number result ≡ slot_at self.now i }
     {
         if self.validity.is_valid(i) {
             Some(self.values.get(i))
@@ -151,7 +152,7 @@ impl<T: PolarsNumericType> NullableArray<NumberValues<T>> {
 
     /// One slot more at the end.
     pub fn push(&mut self, value: Option<T::Native>) -> Result<(), AllocError>
-        ensures ok { OnOk result (self.new ≡ self.old ++ number_slot_of T.Native.number value ∷ []) }
+        ensures ok { OnOk result (self.new ≡ self.old ++ native_slot T.Native.number value ∷ []) }
         ensures err { OnErr result (self.new ≡ self.old) }
     {
         match value {
@@ -199,12 +200,101 @@ impl<T: PolarsNumericType> NullableArray<NumberValues<T>> {
     }
 }
 
+impl<T: PolarsNumericType> ChunkedArray<NumberValues<T>> {
+    /// These numbers in one chunk, none of them null.
+    pub fn from_slice(alloc: Global, name: PlSmallStr, v: &[T::Native]) -> PolarsResult<Self>
+        ensures ok { let slots = map (λ n. Num (T.Native.number n)) v.now in
+            IfOk result (λ c. c ≡ fresh_column (name_of name) (Flat T.Native.flat) slots) }
+        ensures err { IfErr result IsNoMemory }
+    {
+        let chunk = PrimitiveArray::from_slice(alloc, v)?;
+        Ok(ChunkedArray::from_chunk(alloc, name, chunk))
+    }
+
+    /// These numbers in one chunk, `None` as null.
+    pub fn from_slice_options(
+        alloc: Global,
+        name: PlSmallStr,
+        v: &[Option<T::Native>],
+    ) -> PolarsResult<Self>
+        ensures ok { let slots = map (native_slot T.Native.number) v.now in
+            IfOk result (λ c. c ≡ fresh_column (name_of name) (Flat T.Native.flat) slots) }
+        ensures err { IfErr result IsNoMemory }
+    {
+        let mut chunk: PrimitiveArray<T> = PrimitiveArray::empty(alloc);
+        chunk.reserve(v.len())?;
+        for slot in v {
+            chunk.push(*slot)?;
+        }
+        Ok(ChunkedArray::from_chunk(alloc, name, chunk))
+    }
+
+    /// The number of a row.
+    pub fn get(&self, row: usize) -> Option<T::Native>
+        requires { row < length self.now.slots }
+        ensures { native_slot T.Native.number result ≡ slot_at self.now.slots row }
+    {
+        let (chunk, place) = self.locate(row);
+        chunk.get(place)
+    }
+
+    /// One slot more at the end of the last chunk.
+    pub fn push(&mut self, slot: Option<T::Native>) -> PolarsResult<()>
+        requires { HasRoom self.old }
+        ensures ok { OnOk result (self.new ≡ pushed self.old (native_slot T.Native.number slot)) }
+        ensures err { IfErr result IsNoMemory }
+        ensures unchanged { OnErr result (self.new ≡ self.old) }
+    {
+        self.put(slot)?;
+        Ok(())
+    }
+
+    // The same, with an error that is small, for what is called for each cell.
+    #[inline]
+    pub(crate) fn put(&mut self, slot: Option<T::Native>) -> Result<(), AllocError>
+        requires { HasRoom self.old }
+        ensures ok { OnOk result (self.new ≡ pushed self.old (native_slot T.Native.number slot)) }
+        ensures unchanged { OnErr result (self.new ≡ self.old) }
+    {
+        self.last.push(slot)?;
+        self.sorted = IsSorted::Not;
+        Ok(())
+    }
+
+    /// The numbers as words of 64 bits, null as `None`. One pass over the chunks.
+    pub fn words(&self) -> PolarsResult<Vec<Option<u64>>>
+        requires narrow { is_wide T.Native.width ≡ false }
+        ensures ok { IfOk result (λ keys. AreWords T.Native.flat self.now.slots keys.items) }
+        ensures err { IfErr result IsNoMemory }
+    {
+        let mut keys = Vec::with_capacity(self.allocator(), self.len())?;
+        for chunk in &self.earlier {
+            chunk.push_words(&mut keys)?;
+        }
+        self.last.push_words(&mut keys)?;
+        Ok(keys)
+    }
+
+    /// The numbers as words of 128 bits, null as `None`. One pass over the chunks.
+    pub fn wide_words(&self) -> PolarsResult<Vec<Option<u128>>>
+        ensures ok { IfOk result (λ keys. AreWide T.Native.flat self.now.slots keys.items) }
+        ensures err { IfErr result IsNoMemory }
+    {
+        let mut keys = Vec::with_capacity(self.allocator(), self.len())?;
+        for chunk in &self.earlier {
+            chunk.push_wide(&mut keys)?;
+        }
+        self.last.push_wide(&mut keys)?;
+        Ok(keys)
+    }
+}
+
 // The word of a number, None of a null.
 #[inline]
 fn word_of<N: Native>(number: Option<N>) -> Option<u64>
     requires narrow { is_wide N.width ≡ false }
-    ensures key { result ≡ word_key (number_slot_of N.number number) }
-    ensures back { IsToldByWord N.flat (number_slot_of N.number number) }
+    ensures key { result ≡ word_key (native_slot N.number number) }
+    ensures back { IsToldByWord N.flat (native_slot N.number number) }
 {
     match number {
         Some(number) => Some(number.to_word()),
@@ -215,8 +305,8 @@ fn word_of<N: Native>(number: Option<N>) -> Option<u64>
 // The wide word of a number, None of a null.
 #[inline]
 fn wide_of<N: Native>(number: Option<N>) -> Option<u128>
-    ensures key { result ≡ wide_key (number_slot_of N.number number) }
-    ensures back { IsToldByWide N.flat (number_slot_of N.number number) }
+    ensures key { result ≡ wide_key (native_slot N.number number) }
+    ensures back { IsToldByWide N.flat (native_slot N.number number) }
 {
     match number {
         Some(number) => Some(number.to_wide()),

@@ -12,11 +12,10 @@ ghost use Rattle.gb_cols.specs.DataType.{type_of};
 ghost use Rattle.gb_cols.specs.PlSmallStr.{name_of, IsNoMemory};
 ghost use Rattle.gb_cols.specs.Sorted.{flag_of};
 
-use crate::data_type::DataType;
+use crate::data_type::{DataType, IsSorted};
 use crate::error::PolarsResult;
 use crate::nullable_idx::IdxSize;
 use crate::small_str::PlSmallStr;
-use crate::sorted::IsSorted;
 use std::alloc::{AllocError, Global};
 
 /// A named column. Contracts see it as its name, type, slots, chunk lengths and flags.

@@ -1,8 +1,9 @@
 //! Each public call of the crate once.
 
-use crate::array::Array;
+use crate::binary::{BinaryChunked, BinaryOffsetChunked};
+use crate::boolean::BooleanChunked;
 use crate::chunked::{Int64Chunked, StringChunked, UInt32Chunked};
-use crate::data_type::DataType;
+use crate::data_type::{DataType, IsSorted};
 use crate::device::{Failed, Sink, Source};
 use crate::error::{Operation, PolarsError, PolarsResult};
 use crate::memory::{MemSink, SoundSource};
@@ -12,7 +13,6 @@ use crate::pool::Pool;
 use crate::primitive::PrimitiveArray;
 use crate::series_trait::SeriesTrait;
 use crate::small_str::PlSmallStr;
-use crate::sorted::IsSorted;
 use crate::standard::StderrSink;
 use crate::utf8::Utf8Array;
 use std::alloc::Global;
@@ -62,6 +62,53 @@ fn keys_of_each_form(rt: HostRuntime) -> Result<(), Fail> {
     Ok(())
 }
 
+// Whether a cell reads at the end of a short column.
+fn push_flag(column: &mut BooleanChunked, cell: &str) -> PolarsResult<bool> {
+    if column.len() > 9 {
+        return Ok(false);
+    }
+    Ok(column.push_cell(cell.as_bytes(), true, "")?)
+}
+
+#[test]
+fn flags_and_nulls(rt: HostRuntime) -> Result<(), Fail> {
+    let alloc = rt.alloc();
+    let mut column = BooleanChunked::from_slice_options(
+        alloc,
+        name_of(alloc)?,
+        &[Some(false), None],
+    )?;
+    column.append(BooleanChunked::from_slice(alloc, name_of(alloc)?, &[true])?)?;
+    assert_eq!(rt; column.len(), 3);
+    column.push(Some(false))?;
+    let slots = [Some(false), None, Some(true), Some(false)];
+    assert_eq!(rt; column.len(), slots.len());
+    for (row, slot) in slots.iter().enumerate() {
+        assert_eq!(rt; column.get(row), *slot, "at {row}");
+    }
+    let words = [Some(0), None, Some(1), Some(0)];
+    assert_eq!(rt; column.words()?.as_slice(), words.as_slice());
+    assert_eq!(rt; column.dtype()?, DataType::Boolean);
+    Ok(())
+}
+
+#[test]
+fn flags_read_and_written(rt: HostRuntime) -> Result<(), Fail> {
+    let alloc = rt.alloc();
+    let mut column = BooleanChunked::new(alloc, name_of(alloc)?);
+    let cells = ["true", "", "false", "True", "1", "true "];
+    for (place, cell) in cells.iter().enumerate() {
+        assert_eq!(rt; push_flag(&mut column, cell)?, place < 3, "{cell}");
+    }
+    assert_eq!(rt; column.len(), 3);
+    let mut text = Vec::new(alloc);
+    column.write_cell(0, "null", &mut text)?;
+    column.write_cell(1, "null", &mut text)?;
+    column.write_cell(2, "null", &mut text)?;
+    assert_eq!(rt; text.as_slice(), b"truenullfalse".as_slice());
+    Ok(())
+}
+
 #[test]
 fn texts_as_bytes(rt: HostRuntime) -> Result<(), Fail> {
     let alloc = rt.alloc();
@@ -72,6 +119,40 @@ fn texts_as_bytes(rt: HostRuntime) -> Result<(), Fail> {
     let bytes = column.byte_slices()?;
     assert_eq!(rt; bytes.len(), 2);
     assert!(rt; bytes[0] == Some(b"ab".as_slice()) && bytes[1].is_none());
+    Ok(())
+}
+
+#[test]
+fn bytes_and_nulls(rt: HostRuntime) -> Result<(), Fail> {
+    let alloc = rt.alloc();
+    let mut column = BinaryChunked::new(alloc, name_of(alloc)?);
+    column.push(Some(b"a\xff"))?;
+    column.push(None)?;
+    assert_eq!(rt; column.dtype()?, DataType::Binary);
+    assert_eq!(rt; column.null_count(), 1);
+    assert_eq!(rt; column.len(), 2);
+    assert!(rt; column.get(0) == Some(b"a\xff".as_slice()) && column.get(1).is_none());
+    let bytes = column.byte_slices()?;
+    assert_eq!(rt; bytes.len(), 2);
+    assert!(rt; bytes[0] == Some(b"a\xff".as_slice()) && bytes[1].is_none());
+    Ok(())
+}
+
+#[test]
+fn bytes_of_rows_and_nulls(rt: HostRuntime) -> Result<(), Fail> {
+    let alloc = rt.alloc();
+    let mut column = BinaryOffsetChunked::new(alloc, name_of(alloc)?);
+    column.push(Some(b"a"))?;
+    assert!(rt; column.all_valid().is_some());
+    column.push(None)?;
+    assert_eq!(rt; column.dtype()?, DataType::BinaryOffset);
+    assert_eq!(rt; column.null_count(), 1);
+    assert_eq!(rt; column.len(), 2);
+    assert!(rt; column.get(0) == Some(b"a".as_slice()) && column.get(1).is_none());
+    assert!(rt; !column.push_cell(b"61", true, "")?);
+    let bytes = column.byte_slices()?;
+    assert_eq!(rt; bytes.len(), 2);
+    assert!(rt; bytes[0] == Some(b"a".as_slice()) && bytes[1].is_none());
     Ok(())
 }
 

@@ -1,152 +1,83 @@
-//! Texts in a row, and the storage of columns of texts.
+//! Texts in a row, and columns of texts.
 
-ghost use Rattle.std.specs.Prelude.{◌≡◌, ℕ, ◌++◌, ◌∷◌, ◌<◌, [], length, true, map, get_or, IfOk, IfSome, OnOk, OnErr, MatchOption};
-ghost use Rattle.std.specs.Str.{IsUtf8};
-ghost use Rattle.gb_defs.specs.ColumnType.{text};
-ghost use Rattle.gb_defs.specs.Slot.{Bytes, slot_at};
-ghost use Rattle.gb_cols.specs.Array.{start_of, text_slot};
-ghost use Rattle.gb_cols.specs.Keys.{bytes_slot};
-ghost use Rattle.gb_cols.specs.NoNil.{texts_no_nil};
+ghost use Rattle.std.specs.Prelude.{◌≡◌, ◌++◌, ◌∷◌, ◌<◌, [], length, true, get_or, IfErr, OnOk, OnErr};
+ghost use Rattle.std.specs.Str.{IsUtf8, is_utf8};
+ghost use Rattle.gb_defs.specs.Slot.{slot_at};
+ghost use Rattle.gb_cols.specs.Array.{text_slot};
+ghost use Rattle.gb_cols.specs.Column.{HasRoom, pushed};
+ghost use Rattle.gb_cols.specs.PlSmallStr.{IsNoMemory};
 
-use crate::array::Array;
+use crate::bytes::{ByteKind, ByteValues};
+use crate::chunked::ChunkedArray;
 use crate::data_type::DataType;
+use crate::error::PolarsResult;
 use crate::nullable::NullableArray;
-use crate::values::Values;
-use std::alloc::{AllocError, Global};
-use std::marker::Model;
+use std::alloc::AllocError;
 
-/// Texts in a row: one buffer of bytes, and where each text ends in it.
-#[derive(Drop)]
-pub struct TextValues {
-    bytes: Vec<u8>,
-    ends: Vec<usize>,
-}
+/// The kind of texts.
+pub struct Text;
+
+/// Texts in a row.
+pub type TextValues = ByteValues<Text>;
 
 /// Texts that may be null.
 pub type Utf8Array = NullableArray<TextValues>;
 
-impl Model for TextValues {
-    ghost use Rattle.std.specs.Prelude.{List, ℕ};
-    ghost use Rattle.std.specs.Coded.{coded_list, coded_ℕ};
-    ghost use Rattle.gb_cols.specs.Array.{pieces_from, AreTexts};
+impl ByteKind for Text {
+    ghost use Rattle.std.proofs.lemmas.Str.{IsUtf8-nil};
+    ghost use Rattle.gb_defs.specs.ColumnType.{String};
+    ghost use Rattle.gb_cols.specs.ByteKind.{text_read, text_read_fits, text_reads};
 
-    ghost Value = { List (List ℕ) };
+    ghost flat = { String };
 
-    ghost coded = { coded_list (coded_list coded_ℕ) };
+    ghost read = { text_read };
 
-    ghost view = { λ v. pieces_from 0 v.ends.items v.bytes.items };
+    ghost reads = { text_reads };
 
-    ghost invariant = { λ v. AreTexts v.bytes.items v.ends.items };
-}
+    ghost read_fits = { text_read_fits };
 
-// Where the text at a place starts and ends.
-#[inline]
-fn bounds(ends: &Vec<usize>, i: usize) -> (usize, usize)
-    requires { i < length ends.now.items }
-    ensures start { result.0 ≡ start_of 0 ends.now.items i }
-    ensures end { result.1 ≡ get_or ends.now.items i 0 }
-{
-    let start = if i == 0 { 0 } else { ends[i - 1] };
-    (start, ends[i])
-}
+    ghost none_fit = { IsUtf8-nil };
 
-// The text that a cell is, with no look at a cell that is known to be one.
-#[inline]
-fn as_text(cell: &[u8], is_text: bool) -> Option<&str>
-    requires { is_text ≡ true → IsUtf8 cell.now }
-    ensures { MatchOption result (¬ (IsUtf8 cell.now)) (λ t. (t.now ≡ cell.now) × IsUtf8 cell.now) }
-{
-    if is_text {
-        return Some(unsafe { str::from_utf8_unchecked(cell) });
+    fn data_type() -> DataType {
+        DataType::String
     }
-    str::from_utf8(cell).ok()
+
+    #[inline(always)]
+    fn push_cell(bytes: &mut Vec<u8>, cell: &[u8], is_text: bool) -> Result<bool, AllocError> {
+        if !is_utf8(cell, is_text) {
+            return Ok(false);
+        }
+        bytes.extend_from_slice(cell)?;
+        Ok(true)
+    }
+
+    fn write_cell(value: &[u8], to: &mut Vec<u8>) -> Result<(), AllocError> {
+        to.extend_from_slice(value)?;
+        Ok(())
+    }
 }
 
-impl TextValues {
+// Whether a cell is a text, with no look at one that is known to be.
+#[inline]
+fn is_utf8(cell: &[u8], is_text: bool) -> bool
+    requires { is_text ≡ true → IsUtf8 cell.now }
+    ensures { result ≡ is_utf8 cell.now }
+{
+    is_text || str::from_utf8(cell).is_ok()
+}
+
+impl ByteValues<Text> {
     /// The text at a place.
     #[inline]
     pub fn get(&self, i: usize) -> &str
         requires { i < length self.now }
         ensures { result.now ≡ get_or self.now i [] }
     {
-        let (start, end) = bounds(&self.ends, i);
-        let text = &self.bytes.as_slice()[start..end];
-        unsafe { std::str::from_utf8_unchecked(text) }
-    }
-
-    /// One text more at the end.
-    #[inline]
-    pub(crate) fn push(&mut self, text: &str) -> Result<(), AllocError>
-        ensures ok { OnOk result (self.new ≡ self.old ++ text.now ∷ []) }
-        ensures err { OnErr result (self.new ≡ self.old) }
-    {
-        self.ends.reserve(1)?;
-        self.bytes.extend_from_slice(text.as_bytes())?;
-        self.ends.push_reserved(self.bytes.len());
-        Ok(())
+        unsafe { str::from_utf8_unchecked(self.bytes_at(i)) }
     }
 }
 
-impl Values for TextValues {
-    ghost slots = { λ v. map (λ piece. Bytes piece) v };
-
-    ghost dtype = { text };
-
-    ghost none_null = { texts_no_nil };
-
-    fn empty(alloc: Global) -> Self {
-        TextValues {
-            bytes: Vec::new(alloc),
-            ends: Vec::new(alloc),
-        }
-    }
-
-    fn data_type() -> DataType {
-        DataType::String
-    }
-
-    fn len(&self) -> usize {
-        self.ends.len()
-    }
-
-    // How many bytes the texts will have is not known.
-    fn reserve(&mut self, additional: usize) -> Result<(), AllocError> {
-        self.ends.reserve(additional)
-    }
-
-    fn push_filler(&mut self) -> Result<(), AllocError> {
-        self.push("")
-    }
-
-    fn push_from(&mut self, other: &Self, i: usize) -> Result<(), AllocError> {
-        self.push(other.get(i))
-    }
-
-    #[inline(always)]
-    fn push_cell(&mut self, cell: &[u8], is_text: bool) -> Result<bool, AllocError> {
-        match as_text(cell, is_text) {
-            Some(text) => {
-                self.push(text)?;
-                Ok(true)
-            }
-            None => Ok(false),
-        }
-    }
-
-    fn write_cell(&self, i: usize, to: &mut Vec<u8>) -> Result<(), AllocError> {
-        to.extend_from_slice(self.get(i).as_bytes())?;
-        Ok(())
-    }
-
-    fn try_clone(&self) -> Result<Self, AllocError> {
-        Ok(TextValues {
-            bytes: Vec::from_slice(*self.bytes.allocator(), &self.bytes)?,
-            ends: Vec::from_slice(*self.ends.allocator(), &self.ends)?,
-        })
-    }
-}
-
-impl NullableArray<TextValues> {
+impl NullableArray<ByteValues<Text>> {
     /// The text at a place.
     #[inline]
     pub fn get(&self, i: usize) -> Option<&str>
@@ -166,58 +97,32 @@ impl NullableArray<TextValues> {
         ensures err { OnErr result (self.new ≡ self.old) }
     {
         match text {
-            Some(text) => self.push_valid(text),
+            Some(text) => self.push_bytes(Some(text.as_bytes())),
             None => self.push_null(),
         }
     }
-
-    // One text more at the end.
-    #[inline]
-    fn push_valid(&mut self, text: &str) -> Result<(), AllocError>
-        ensures ok { OnOk result (self.new ≡ self.old ++ Bytes text.now ∷ []) }
-        ensures err { OnErr result (self.new ≡ self.old) }
-    {
-        self.validity.reserve_one()?;
-        self.values.push(text)?;
-        self.validity.push_reserved_valid();
-        Ok(())
-    }
-
-    /// The texts, where no slot is null.
-    pub(crate) fn all_valid(&self) -> Option<&TextValues>
-        ensures { IfSome result (λ texts. map (λ text. Bytes text) texts.now ≡ self.now) }
-    {
-        if self.validity.is_empty() {
-            Some(&self.values)
-        } else {
-            None
-        }
-    }
-
-    /// The bytes of the texts behind the keys before, null as `None`.
-    pub(crate) fn push_bytes<'a>(
-        &'a self,
-        keys: &mut Vec<Option<&'a [u8]>>,
-    ) -> Result<(), AllocError>
-        ensures { OnOk result
-            (map bytes_slot keys.new.items ≡ map bytes_slot keys.old.items ++ self.now) }
-    {
-        let count = self.len();
-        keys.reserve(count)?;
-        for i in 0..count {
-            keys.push_reserved(bytes_of(self.get(i)));
-        }
-        Ok(())
-    }
 }
 
-// The bytes of a text, None of a null.
-#[inline]
-fn bytes_of<'a>(text: Option<&'a str>) -> Option<&'a [u8]>
-    ensures { bytes_slot result ≡ text_slot text.entry }
-{
-    match text {
-        Some(text) => Some(text.as_bytes()),
-        None => None,
+impl ChunkedArray<ByteValues<Text>> {
+    /// The text of a row.
+    pub fn get(&self, row: usize) -> Option<&str>
+        requires { row < length self.now.slots }
+        ensures { text_slot result ≡ slot_at self.now.slots row }
+    {
+        let (chunk, place) = self.locate(row);
+        chunk.get(place)
+    }
+
+    /// One slot more at the end of the last chunk.
+    pub fn push(&mut self, slot: Option<&str>) -> PolarsResult<()>
+        requires { HasRoom self.old }
+        ensures ok { OnOk result (self.new ≡ pushed self.old (text_slot slot.entry)) }
+        ensures err { IfErr result IsNoMemory }
+        ensures unchanged { OnErr result (self.new ≡ self.old) }
+    {
+        match slot {
+            Some(text) => self.push_bytes(Some(text.as_bytes())),
+            None => self.push_bytes(None),
+        }
     }
 }

@@ -104,9 +104,16 @@ cell_slot null_word t bs = if bytes_eq bs null_word then Some Nil else value_of_
 
 -- whether cells of the type are read today
 abbrev pub is_read_flat : FlatType → Bool
+is_read_flat Boolean = true
 is_read_flat (Unsigned w) = true
 is_read_flat (Signed w) = true
+is_read_flat (Decimal precision scale) = true
+is_read_flat Date = true
+is_read_flat Time = true
+is_read_flat (Datetime unit) = true
+is_read_flat (Duration unit) = true
 is_read_flat String = true
+is_read_flat Binary = true
 is_read_flat _ = false
 
 abbrev pub is_read : ColumnType → Bool

@@ -5,8 +5,12 @@ use Rattle.std.specs.List.{range_with_len}
 use Rattle.std.specs.Int.{Width, w8, w16, w32, w64, w128}
 use Rattle.gb_defs.specs.ColumnType.{TimeUnit, Nanoseconds, Microseconds, Milliseconds, CategoricalOrdering, Physical, Lexical, FlatType, Null, Boolean, Unsigned, Signed, Decimal, Date, Time, Datetime, Duration, String, Binary, BinaryOffset, Categorical, Enum, ColumnType, Flat, ListOf, ArrayOf, StructOf, Fields, NoFields, Field}
 
-abbrev decimal_word : ℕ → List ℕ × FlatType
+abbrev pub decimal_word : ℕ → List ℕ × FlatType
 decimal_word scale = (codes "dec" ++ decimal scale, Decimal None (Some scale))
+
+-- the words of decimals of each scale that a header may have
+abbrev pub decimal_words : List (List ℕ × FlatType)
+decimal_words = map decimal_word (range_with_len 0 39)
 
 -- each word that a header may have, with its type
 unfoldable pub type_words : List (List ℕ × FlatType)
@@ -18,7 +22,7 @@ type_words =
     ∷ (codes "datetime_ns", Datetime Nanoseconds) ∷ (codes "datetime_us", Datetime Microseconds) ∷ (codes "datetime_ms", Datetime Milliseconds)
     ∷ (codes "duration_ns", Duration Nanoseconds) ∷ (codes "duration_us", Duration Microseconds) ∷ (codes "duration_ms", Duration Milliseconds)
     ∷ (codes "str", String) ∷ (codes "bin", Binary) ∷ (codes "cat", Categorical None Physical) ∷ (codes "lexcat", Categorical None Lexical)
-    ∷ map decimal_word (range_with_len 0 39)
+    ∷ decimal_words
 
 abbrev pub word_among : List (List ℕ × FlatType) → List ℕ → Option FlatType
 word_among [] word = None

@@ -39,6 +39,10 @@ pub fn outcomes()
         ≡ Report (codes "k:i128,v_sum:i32\n1,12\n4294967297,6\n") }
     ensures sum_wraps { outcome sums_by_key (codes "k,v:i32\nx,2147483647\nx,1\n")
         ≡ Report (codes "k:str,v_sum:i32\nx,-2147483648\n") }
+    ensures flag_keys { outcome sums_by_key (codes "k:bool,v:bool\ntrue,true\n,true\ntrue,true\n")
+        ≡ Report (codes "k:bool,v_sum:u32\ntrue,2\n,1\n") }
+    ensures hundredths { outcome sums_by_key (codes "k:date,v:dec2\n-1,0.5\n-1,-.25\n")
+        ≡ Report (codes "k:date,v_sum:dec2\n-1,0.25\n") }
     ensures null_is_a_group { outcome sums_by_key (codes "k,v:i64\n,5\n1,6\n,7\n")
         ≡ Report (codes "k:str,v_sum:i64\n,12\n1,6\n") }
     ensures number_key { outcome sums_by_key (codes "k:i64,v:i64\n,5\n1,6\n,7\n")
@@ -52,7 +56,7 @@ pub fn outcomes()
     ensures ragged { outcome keys_alone (codes "k\n1,2\n") ≡ BadTable (Ragged 1 2 1) }
     ensures same_name { outcome keys_alone (codes "a,a:i64\n") ≡ BadTable (SameName 2) }
     ensures no_header { outcome keys_alone (codes "") ≡ BadTable NoHeader }
-    ensures unread_type { outcome keys_alone (codes "k,v:bool\n") ≡ BadTable (BadCell 0 2) }
+    ensures unread_type { outcome keys_alone (codes "k,v:cat\n") ≡ BadTable (BadCell 0 2) }
     ensures header_from_the_left { outcome keys_alone (codes "k,k,v:i32\n")
         ≡ BadTable (SameName 2) }
     ensures first_bad_row { outcome keys_alone (codes "k,v:i64\na,1\nb\nc,x\n")

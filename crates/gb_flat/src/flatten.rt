@@ -5,7 +5,7 @@ ghost use Rattle.gb_cols.specs.PlSmallStr.{IsNoMemory};
 ghost use Rattle.gb_flat.specs.Buffers.{joined};
 
 use crate::fill::fill_shares;
-use crate::offsets::{cap_and_offsets, split_offsets};
+use crate::shares::{cap_and_offsets, split_offsets};
 use gb_cols::error::PolarsResult;
 use gb_cols::pool::Pool;
 use std::alloc::Global;

@@ -5,7 +5,6 @@
 mod fill;
 pub mod flatten;
 pub mod nullable;
-pub mod offsets;
 pub mod shares;
 #[cfg(test)]
 mod tests;

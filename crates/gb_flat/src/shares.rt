@@ -1,14 +1,46 @@
-//! Work dealt out by ranges of a length, and its results in order.
+//! How a length is dealt out, where each of several buffers begins, and work by shares with its results
+//! in order.
 
 ghost use Rattle.std.specs.Prelude.{◌≡◌, ℕ, ◌+◌, ◌<◌, ◌≤◌, All, length, map, IfOk, IfErr, slice_index_or, Ok, Err};
-ghost use Rattle.gb_defs.specs.Flat.{range_at};
+ghost use Rattle.gb_defs.specs.Flat.{range_at, ranges_of};
 ghost use Rattle.gb_cols.specs.PlSmallStr.{IsNoMemory};
-ghost use Rattle.gb_flat.specs.Buffers.{joined};
+ghost use Rattle.gb_flat.specs.Buffers.{item_count, joined, starts_of};
 
-use crate::offsets::split_offsets;
 use gb_cols::error::{PolarsError, PolarsResult};
 use std::alloc::{AllocError, Global};
 use std::thread::{self, Threads};
+
+/// So many ranges that follow each other and cover the length. The last has what the others leave.
+pub fn split_offsets(alloc: Global, len: usize, n: usize) -> PolarsResult<Vec<(usize, usize)>>
+    requires { 1 ≤ n }
+    ensures ok { IfOk result (λ ranges. ranges.items ≡ ranges_of len n) }
+    ensures err { IfErr result IsNoMemory }
+{
+    let each = len / n;
+    let mut ranges = Vec::with_capacity(alloc, n)?;
+    for k in 0..n - 1 {
+        ranges.push_reserved((k * each, each));
+    }
+    let start = (n - 1) * each;
+    ranges.push_reserved((start, len - start));
+    Ok(ranges)
+}
+
+/// How long the buffers are together, and where each begins. A total that a `usize` does not hold is
+/// more than memory holds.
+pub fn cap_and_offsets<I>(alloc: Global, v: &[Vec<I>]) -> PolarsResult<(usize, Vec<usize>)>
+    ensures total { IfOk result (λ r. r.0 ≡ item_count v.now) }
+    ensures starts { IfOk result (λ r. r.1.items ≡ starts_of 0 v.now) }
+    ensures err { IfErr result IsNoMemory }
+{
+    let mut total = 0usize;
+    let mut starts = Vec::with_capacity(alloc, v.len())?;
+    for list in v {
+        starts.push_reserved(total);
+        total = total.checked_add(list.len()).ok_or(PolarsError::NoMemory)?;
+    }
+    Ok((total, starts))
+}
 
 /// What `part` gives for each range of `split_offsets`, in order, each range in a thread of its own where
 /// one can be made. A range is its start and its length.

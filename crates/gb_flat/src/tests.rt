@@ -5,8 +5,7 @@ ghost use Rattle.gb_cols.specs.PlSmallStr.{IsNoMemory};
 
 use crate::flatten::flatten_par;
 use crate::nullable::flatten_nullable;
-use crate::offsets::{cap_and_offsets, split_offsets};
-use crate::shares::{join_shares, map_shares};
+use crate::shares::{cap_and_offsets, join_shares, map_shares, split_offsets};
 use gb_cols::error::PolarsResult;
 use gb_cols::nullable_idx::NullableIdxSize;
 use gb_cols::pool::Pool;

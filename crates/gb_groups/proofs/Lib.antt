@@ -1,4 +1,5 @@
 pub mod ItemLemmas
 pub mod OrderLemmas
 pub mod PartLemmas
+pub mod SliceLemmas
 pub mod OnceLemmas

@@ -79,3 +79,15 @@ by_first_still firsts lists long ascend = record {
       rw (at_here, at_next) (not_below _ _ (ascend k (k + 1) d.0 (omega arith) next));
   stable = λ pair. refl;
 }
+
+pub in_order_still : (pairs : List (ℕ × List ℕ)) → IsNonDecreasing (map first_of pairs) → IsByFirst pairs pairs
+in_order_still pairs ascend = record {
+  moved = IsPermutation-refl pairs;
+  sorted = λ k d low lt.
+      let inside : k < length pairs = omega (arith, lt) in
+      let next : k + 1 < length (map first_of pairs) = omega (arith, lt, length-map pairs first_of) in
+      let at_here = get_or-map first_of pairs k d d.0 inside in
+      let at_next = get_or-map first_of pairs (k + 1) d d.0 lt in
+      not_below _ _ (rw (at_here, at_next) at (ascend k (k + 1) d.0 (omega arith) next));
+  stable = λ pair. refl;
+}

@@ -1,5 +1,7 @@
 pub mod Groups
 pub mod GroupsIndicator
 pub mod GroupsType
+pub mod Left
 pub mod Order
 pub mod Parts
+pub mod Slices

@@ -6,13 +6,12 @@ ghost use Rattle.gb_cols.specs.PlSmallStr.{IsNoMemory};
 ghost use Rattle.gb_defs.specs.Groups.{first_of, idx_groups, lists_in};
 ghost use Rattle.gb_flat.specs.Buffers.{joined};
 
-use crate::items::{push_items, take_items};
+use crate::items::{join_parts, push_items, spread_parts, take_items};
 use crate::iter::GroupsIdxIter;
-use crate::parts::{join_parts, spread_parts};
 use gb_cols::error::PolarsResult;
 pub use gb_cols::nullable_idx::IdxSize;
 use gb_cols::pool::Pool;
-use gb_flat::offsets::cap_and_offsets;
+use gb_flat::shares::cap_and_offsets;
 use smallvec::SmallVec;
 use std::alloc::Global;
 use std::marker::Model;
@@ -139,6 +138,13 @@ impl GroupsIdx {
         ensures { result.now ≡ map first_of self.now.pairs }
     {
         self.first.as_slice()
+    }
+
+    /// The first row of each group, moved out.
+    pub(crate) fn into_first(self) -> Vec<IdxSize>
+        ensures { result.items ≡ map first_of self.pairs }
+    {
+        self.first
     }
 
     /// The rows of each group.

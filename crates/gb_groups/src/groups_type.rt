@@ -1,11 +1,12 @@
 //! Groups in the form that the path to them gave.
 
-ghost use Rattle.std.specs.Prelude.{◌≡◌, ◌<◌, ◌==◌, [], length, map, slice_index_or, IsTrue, true, IfErr, OnOk, OnErr};
+ghost use Rattle.std.specs.Prelude.{◌≡◌, ◌<◌, ◌==◌, [], length, map, slice_index_or, IsTrue, true, IfErr, IfOk, OnOk, OnErr};
 ghost use Rattle.std.specs.List.Sorted.{IsNonDecreasing};
 ghost use Rattle.gb_cols.specs.PlSmallStr.{IsNoMemory};
-ghost use Rattle.gb_defs.specs.Groups.{first_of};
+ghost use Rattle.gb_defs.specs.Groups.{first_of, Idx};
 
 use crate::groups_idx::{BorrowIdxItem, GroupsIdx, IdxSize};
+use crate::groups_slice::GroupsSlice;
 use crate::iter::GroupsTypeIter;
 use gb_cols::error::PolarsResult;
 
@@ -13,12 +14,16 @@ use gb_cols::error::PolarsResult;
 #[derive(Drop)]
 pub enum GroupsType {
     Idx(GroupsIdx),
+    /// Runs that roll may overlap.
+    Slice { groups: GroupsSlice, rolling: bool },
 }
 
 /// One group, lent in the form that it has.
 #[derive(Drop)]
 pub enum GroupsIndicator<'a> {
     Idx(BorrowIdxItem<'a>),
+    /// Its first row and its length.
+    Slice([IdxSize; 2]),
 }
 
 impl<'a> GroupsIndicator<'a> {
@@ -30,6 +35,7 @@ impl<'a> GroupsIndicator<'a> {
     {
         match self {
             GroupsIndicator::Idx((_, rows)) => rows.len(),
+            GroupsIndicator::Slice(slice) => slice[1] as usize,
         }
     }
 
@@ -45,6 +51,7 @@ impl<'a> GroupsIndicator<'a> {
     {
         match self {
             GroupsIndicator::Idx((first, _)) => *first,
+            GroupsIndicator::Slice(slice) => slice[0],
         }
     }
 }
@@ -70,6 +77,7 @@ impl GroupsType {
     {
         match self {
             GroupsType::Idx(groups) => groups.len(),
+            GroupsType::Slice { groups, .. } => groups.as_slice().len(),
         }
     }
 
@@ -86,6 +94,10 @@ impl GroupsType {
     {
         match self {
             GroupsType::Idx(groups) => groups.is_sorted_flag(),
+            GroupsType::Slice { groups, .. } => {
+                let _ = groups.as_slice();
+                true
+            }
         }
     }
 
@@ -96,15 +108,18 @@ impl GroupsType {
     {
         match self {
             GroupsType::Idx(groups) => GroupsIndicator::Idx(groups.get(index)),
+            GroupsType::Slice { groups, .. } => GroupsIndicator::Slice(groups.as_slice()[index]),
         }
     }
 
-    /// The first row of each group.
-    pub fn first(&self) -> &[IdxSize]
-        ensures { result.now ≡ map first_of (groups_of self.now).pairs }
+    /// The first row of each group. Those of row lists are moved out.
+    pub fn take_group_firsts(self) -> PolarsResult<Vec<IdxSize>>
+        ensures ok { IfOk result (λ firsts. firsts.items ≡ map first_of (groups_of self).pairs) }
+        ensures err { IfErr result IsNoMemory }
     {
         match self {
-            GroupsType::Idx(groups) => groups.first(),
+            GroupsType::Idx(groups) => Ok(groups.into_first()),
+            GroupsType::Slice { groups, .. } => groups.starts(),
         }
     }
 
@@ -114,6 +129,7 @@ impl GroupsType {
     {
         match self {
             GroupsType::Idx(groups) => GroupsTypeIter::over_lists(groups.iter()),
+            GroupsType::Slice { groups, .. } => GroupsTypeIter::over_slices(groups.as_slice()),
         }
     }
 
@@ -130,15 +146,21 @@ impl GroupsType {
     {
         match self {
             GroupsType::Idx(groups) => groups.sort(),
+            GroupsType::Slice { groups, rolling: _ } => {
+                let _ = groups.as_slice();
+                Ok(())
+            }
         }
     }
 
     /// The groups as row lists.
     pub fn unwrap_idx(&self) -> &GroupsIdx
+        requires { (groups_of self.now).form ≡ Idx }
         ensures { result.now ≡ groups_of self.now }
     {
         match self {
             GroupsType::Idx(groups) => groups,
+            GroupsType::Slice { .. } => unreachable!(),
         }
     }
 }
@@ -175,7 +197,6 @@ mod tests {
             seen = 1;
         }
         assert_eq!(rt; groups.get(1).first(), 1);
-        assert_eq!(rt; groups.first(), [0, 1].as_slice());
         let lists = groups.unwrap_idx();
         assert_eq!(rt; lists.first(), [0, 1].as_slice());
         assert_eq!(rt; lists.all().len(), 2);
@@ -183,6 +204,32 @@ mod tests {
         assert!(rt; !GroupsIdx::firsts_ascend(&[1, 0]));
         assert_eq!(rt; lists.iter().count(), 2);
         assert!(rt; GroupsIdx::empty(rt.alloc()).is_empty());
+        Ok(())
+    }
+
+    #[test]
+    fn runs_are_groups(rt: HostRuntime) -> Result<(), Fail> {
+        let runs = vec![in rt.alloc(); [0u32, 2], [1, 0], [1, 3]]?;
+        assert!(rt; GroupsSlice::slices_fit(&runs));
+        let groups = GroupsSlice::from_vec(runs);
+        assert_eq!(rt; groups.as_slice().len(), 3);
+        let mut groups = GroupsType::Slice {
+            groups,
+            rolling: true,
+        };
+        groups.sort()?;
+        assert_eq!(rt; groups.len(), 3);
+        assert!(rt; groups.is_sorted_flag());
+        assert_eq!(rt; (groups.get(2).first(), groups.get(2).len()), (1, 3));
+        let lengths = [2, 0, 3];
+        for (group, length) in groups.iter().zip(lengths.iter()) {
+            assert_eq!(rt; group.len(), *length);
+            assert_eq!(rt; group.is_empty(), *length == 0);
+        }
+        let firsts = groups.take_group_firsts()?;
+        assert_eq!(rt; firsts.as_slice(), [0, 1, 1].as_slice());
+        let firsts = two_groups(rt.alloc())?.take_group_firsts()?;
+        assert_eq!(rt; firsts.as_slice(), [0, 1].as_slice());
         Ok(())
     }
 }

@@ -3,6 +3,7 @@
 ghost use Rattle.std.specs.Prelude.{◌≡◌, length};
 ghost use Rattle.std.specs.Iterator.{YieldsFirstBy, item_count};
 ghost use Rattle.gb_groups.specs.Groups.{lent_pair, paired};
+ghost use Rattle.gb_groups.specs.Slices.{slice_pairs};
 
 use crate::groups_idx::{BorrowIdxItem, IdxSize, IdxVec};
 use crate::groups_type::GroupsIndicator;
@@ -51,25 +52,43 @@ impl<'a> Iterator for GroupsIdxIter<'a> {
     }
 }
 
+// The groups that are left, as lists or as runs.
+#[derive(Drop)]
+enum Left<'a> {
+    Idx(GroupsIdxIter<'a>),
+    Slice(&'a [[IdxSize; 2]]),
+}
+
 /// The groups that are left, in the form that they have.
 #[derive(Drop)]
 pub struct GroupsTypeIter<'a> {
-    groups: GroupsIdxIter<'a>,
+    left: Left<'a>,
 }
 
 impl<'a> Model for GroupsTypeIter<'a> {
     ghost use Rattle.std.specs.Prelude.{ℕ, List};
+    ghost use Rattle.gb_groups.specs.Left.{left_pairs};
 
     ghost Value = { List (ℕ × List ℕ) };
 
-    ghost view = { λ it. it.groups };
+    ghost view = { λ it. left_pairs it.left };
 }
 
 impl<'a> GroupsTypeIter<'a> {
     pub(crate) fn over_lists(groups: GroupsIdxIter<'a>) -> GroupsTypeIter<'a>
         ensures { result ≡ groups.entry }
     {
-        GroupsTypeIter { groups }
+        GroupsTypeIter {
+            left: Left::Idx(groups),
+        }
+    }
+
+    pub(crate) fn over_slices(slices: &'a [[IdxSize; 2]]) -> GroupsTypeIter<'a>
+        ensures { result ≡ slice_pairs slices.now }
+    {
+        GroupsTypeIter {
+            left: Left::Slice(slices),
+        }
     }
 }
 
@@ -83,6 +102,13 @@ impl<'a> Iterator for GroupsTypeIter<'a> {
     ghost remaining = { item_count (λ rest. rest) };
 
     fn next(&mut self) -> Option<GroupsIndicator<'a>> {
-        Some(GroupsIndicator::Idx(self.groups.next()?))
+        match &mut self.left {
+            Left::Idx(groups) => Some(GroupsIndicator::Idx(groups.next()?)),
+            Left::Slice(slices) => {
+                let (slice, later) = slices.split_first()?;
+                *slices = later;
+                Some(GroupsIndicator::Slice(*slice))
+            }
+        }
     }
 }

@@ -4,8 +4,8 @@
 #![tactic(auto)]
 
 pub mod groups_idx;
+pub mod groups_slice;
 pub mod groups_type;
 mod items;
 pub mod iter;
 pub mod order;
-mod parts;

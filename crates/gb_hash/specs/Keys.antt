@@ -9,7 +9,7 @@ use Rattle.std.proofs.Common.{ap}
 use Rattle.gb_defs.specs.Slot.{Slot, Num, Bytes}
 use Rattle.gb_defs.specs.Hash.{hash_of}
 use Rattle.gb_defs.specs.Rows.{Rows, rows_of_slots}
-use Rattle.gb_cols.specs.Array.{number_slot_of, text_slot}
+use Rattle.gb_cols.specs.Array.{native_slot, text_slot}
 use Rattle.gb_cols.specs.Keys.{bytes_slot}
 
 -- numbers, equal where they are one
@@ -19,7 +19,7 @@ keys_decide_by eq number d a b = (λ e. ap (λ n. Num n) ((d a b).0 e), λ e. (d
 
 -- numbers, equal where they are one, with a null apart
 pub numbers_decide : {N : Type 0} (eq : N → N → Bool) (number : N → ℤ) → ((a b : N) → Decides (eq a b) (number a ≡ number b)) →
-    (a b : Option N) → Decides (option_eq eq a b) (number_slot_of number a ≡ number_slot_of number b)
+    (a b : Option N) → Decides (option_eq eq a b) (native_slot number a ≡ native_slot number b)
 numbers_decide eq number d None None = (λ _. refl, λ _. refl)
 numbers_decide eq number d None (Some b) = (λ e. cc, λ e. cc)
 numbers_decide eq number d (Some a) None = (λ e. cc, λ e. cc)

@@ -7,11 +7,9 @@ ghost use Rattle.gb_defs.specs.Hash.{hash_of};
 ghost use Rattle.gb_cols.specs.Array.{text_slot};
 ghost use Rattle.gb_hash.specs.Keys.{texts_decide, slots_alike};
 
-use crate::byte_hash::hash_text;
-use crate::key_rows::KeyRows;
+use crate::dirty_hash::{hash_null, hash_text};
+use crate::key_rows::{KeyRows, Steps};
 use crate::mixer::Mixer;
-use crate::steps::Steps;
-use crate::word_hash::hash_null;
 use gb_cols::chunked::StringChunked;
 use gb_cols::series_trait::SeriesTrait;
 use std::sync::ledger::Ledger;

@@ -1,11 +1,40 @@
-//! The hash of a number by its bits.
+//! The hashes of words, of numbers by their bits, of bytes eight at a time, and of a null.
 
-ghost use Rattle.std.specs.Prelude.{◌≡◌};
-ghost use Rattle.gb_defs.specs.Hash.{hash_number};
+ghost use Rattle.std.specs.Prelude.{◌≡◌, ◌<◌, length};
+ghost use Rattle.std.specs.Int.{w64, from_le_bytes};
+ghost use Rattle.std.specs.List.{fold};
+ghost use Rattle.gb_defs.specs.Hash.{fold_word, hash_bytes, hash_halves, hash_number, null_hash, words_of};
 
 use crate::mixer::Mixer;
-use crate::word_hash::{hash_of_halves, with_word};
-use gb_cols::native::Native;
+use gb_cols::numeric::Native;
+
+// The hash so far, with one more word.
+#[inline]
+pub(crate) fn with_word<M: Mixer>(mixer: &M, hash: u64, word: u64) -> u64
+    ensures { result ≡ fold_word (M.mix_of mixer.now) hash word }
+{
+    mixer.mix(hash ^ mixer.mix(word))
+}
+
+// The hash of 128 bits.
+#[inline]
+pub(crate) fn hash_of_halves<M: Mixer>(mixer: &M, bits: u128) -> u64
+    ensures { result ≡ hash_halves (M.seed_of mixer.now) (M.mix_of mixer.now) bits }
+{
+    let low = (bits % (1 << 64)) as u64;
+    let high = (bits >> 64) as u64;
+    with_word(mixer, with_word(mixer, mixer.seed(), low), high)
+}
+
+/// The hash of a null.
+#[inline]
+#[tactic(auto, unfolding(gb_defs::specs::Hash::null_hash))]
+pub fn hash_null<M: Mixer>(mixer: &M) -> u64
+    ensures { result ≡ null_hash (M.seed_of mixer.now) (M.mix_of mixer.now) }
+{
+    let once = with_word(mixer, mixer.seed(), 3_188_347_919);
+    with_word(mixer, mixer.seed(), once)
+}
 
 /// A number that has a hash under any mixer.
 pub trait DirtyHash: Native {
@@ -23,4 +52,40 @@ impl<N: Native> DirtyHash for N {
             with_word(mixer, mixer.seed(), self.to_word())
         }
     }
+}
+
+/// The hash of the bytes of a text, with its length.
+pub fn hash_text<M: Mixer>(mixer: &M, bytes: &[u8]) -> u64
+    ensures { result ≡ hash_bytes (M.seed_of mixer.now) (M.mix_of mixer.now) bytes.now }
+{
+    let mut hash = hash_null(mixer);
+    let mut rest = bytes;
+    while let Some((word, after)) = rest.split_first_chunk::<8>() {
+        hash = with_word(mixer, hash, u64::from_le_bytes(*word));
+        rest = after;
+    }
+    with_word(mixer, with_rest(mixer, hash, rest), bytes.len() as u64)
+}
+
+// The hash so far, with the bytes that are no whole word.
+#[inline]
+fn with_rest<M: Mixer>(mixer: &M, hash: u64, rest: &[u8]) -> u64
+    requires { length rest.now < 8 }
+    ensures { result ≡ fold (fold_word (M.mix_of mixer.now)) hash (words_of rest.now) }
+{
+    if rest.is_empty() {
+        return hash;
+    }
+    with_word(mixer, hash, last_word(rest))
+}
+
+// The last bytes, padded with zeros.
+#[inline]
+fn last_word(bytes: &[u8]) -> u64
+    requires { length bytes.now < 8 }
+    ensures { result ≡ from_le_bytes w64 bytes.now }
+{
+    let mut word = [0; 8];
+    word[..bytes.len()].copy_from_slice(bytes);
+    u64::from_le_bytes(word)
 }

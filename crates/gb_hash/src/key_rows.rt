@@ -1,14 +1,50 @@
-//! Rows that have a key and a hash each.
+//! Rows that have a key and a hash each, and a counter of the keys that are read, which takes no bytes.
 
-ghost use Rattle.std.specs.Prelude.{◌≡◌, ◌+◌, ◌<◌};
+ghost use Rattle.std.specs.Prelude.{◌≡◌, ℕ, ◌+◌, ◌<◌};
 ghost use Rattle.std.specs.Bool.{Decides};
 ghost use Rattle.gb_defs.specs.Rows.{Rows};
 ghost use Rattle.gb_defs.specs.Slot.{Slot};
 ghost use Rattle.gb_hash.specs.Keys.{HashAlike};
 
-use crate::steps::Steps;
 use std::hash::Hash;
-use std::sync::ledger::Ledger;
+use std::marker::Model;
+use std::sync::ledger::{Blank, Book, Ledger, Share};
+
+/// How many steps were taken. Only `tick` changes it.
+#[derive(Drop)]
+pub struct Steps<L: Ledger> {
+    book: Book<L>,
+    share: Share<L>,
+}
+
+impl<L: Ledger> Model for Steps<L> {
+    ghost Value = { ℕ };
+
+    ghost view = { λ steps. steps.book.total };
+
+    ghost invariant = { λ steps. 0 < steps.share.parts };
+}
+
+impl<L: Ledger> Steps<L> {
+    /// No steps yet.
+    pub fn new(blank: Blank) -> Steps<L>
+        requires name { blank.name ≡ L.name }
+        requires parts { blank.parts ≡ L.parts }
+        requires some { 0 < L.parts }
+        ensures { result ≡ 0 }
+    {
+        let (book, share) = blank.open();
+        Steps { book, share }
+    }
+
+    /// One step more.
+    #[inline]
+    pub fn tick(&mut self)
+        ensures { self.new ≡ self.old + 1 }
+    {
+        self.book.add(&mut self.share, 1);
+    }
+}
 
 /// Rows with a key and a hash each.
 pub trait KeyRows: Sync {

@@ -5,7 +5,6 @@
 //! by its hash.
 #![tactic(auto)]
 
-pub mod byte_hash;
 pub mod byte_rows;
 pub mod combine;
 pub mod dirty_hash;
@@ -16,8 +15,5 @@ pub mod list_rows;
 pub mod mixer;
 pub mod num_rows;
 pub mod slice_rows;
-pub mod steps;
 #[cfg(test)]
 mod tests;
-pub mod text_rows;
-pub mod word_hash;

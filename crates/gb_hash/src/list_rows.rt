@@ -1,20 +1,20 @@
-//! The rows of a list of keys.
+//! The rows of a list of keys, and of texts that lie in one buffer.
 
 ghost use Rattle.std.specs.Prelude.{◌≡◌, map, pos, nat_eq};
 ghost use Rattle.std.specs.Bool.{Decides};
 ghost use Rattle.std.specs.Int.{Width, w64, w128};
-ghost use Rattle.gb_defs.specs.Slot.{Slot};
+ghost use Rattle.gb_defs.specs.Slot.{Bytes, Slot};
 ghost use Rattle.gb_defs.specs.Hash.{hash_of};
 ghost use Rattle.gb_defs.specs.Rows.{rows_of_slots};
 ghost use Rattle.gb_cols.specs.Keys.{bytes_slot, key_slot};
 ghost use Rattle.gb_cols.specs.Native.{Decides-pos};
-ghost use Rattle.gb_hash.specs.Keys.{bytes_decide, numbers_decide, slots_alike};
+ghost use Rattle.gb_hash.specs.Keys.{bytes_decide, numbers_decide, plain_bytes_decide, slots_alike};
 
-use crate::byte_hash::hash_text;
-use crate::key_rows::KeyRows;
+use crate::dirty_hash::{hash_null, hash_of_halves, hash_text, with_word};
+use crate::key_rows::{KeyRows, Steps};
 use crate::mixer::Mixer;
-use crate::steps::Steps;
-use crate::word_hash::{hash_null, hash_of_halves, with_word};
+use gb_cols::nullable::Values;
+use gb_cols::utf8::TextValues;
 use std::hash::Hash;
 use std::sync::ledger::Ledger;
 
@@ -120,5 +120,46 @@ impl<'a, K: RowKey + Send + Sync, M: Mixer + Sync> KeyRows for ListRows<'a, K, M
 
     fn hash_at(&self, i: usize) -> u64 {
         self.keys[i].hash_key(&self.mixer)
+    }
+}
+
+/// The rows of texts in one buffer, none of them null; their bytes are the keys.
+#[derive(Drop)]
+pub struct TextRows<'a, M: Mixer> {
+    pub texts: &'a TextValues,
+    pub mixer: M,
+}
+
+impl<'a, M: Mixer> TextRows<'a, M> {
+    pub fn new(texts: &'a TextValues, mixer: M) -> Self
+        ensures texts { result.texts.now ≡ texts.now }
+        ensures mixer { result.mixer ≡ mixer }
+    {
+        TextRows { texts, mixer }
+    }
+}
+
+impl<'a, M: Mixer + Sync> KeyRows for TextRows<'a, M> {
+    type Key = &'a [u8];
+
+    ghost rows = { λ r. rows_of_slots w64 (M.seed_of r.mixer) (M.mix_of r.mixer) (map (λ t. Bytes t) r.texts.now) };
+
+    ghost key_slot = { λ key. Bytes key.now };
+
+    ghost keys_decide = { plain_bytes_decide };
+
+    ghost hashes_alike = { λ r. slots_alike w64 (M.seed_of r.mixer) (M.mix_of r.mixer) (map (λ t. Bytes t) r.texts.now) };
+
+    fn len(&self) -> usize {
+        self.texts.len()
+    }
+
+    fn key_at<L: Ledger>(&self, i: usize, steps: &mut Steps<L>) -> &'a [u8] {
+        steps.tick();
+        self.texts.get(i).as_bytes()
+    }
+
+    fn hash_at(&self, i: usize) -> u64 {
+        hash_text(&self.mixer, self.texts.get(i).as_bytes())
     }
 }

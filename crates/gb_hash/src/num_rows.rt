@@ -3,30 +3,27 @@
 ghost use Rattle.std.specs.Prelude.{◌≡◌};
 ghost use Rattle.gb_defs.specs.Rows.{rows_of_slots};
 ghost use Rattle.gb_defs.specs.Hash.{hash_of};
-ghost use Rattle.gb_cols.specs.Array.{number_slot_of};
+ghost use Rattle.gb_cols.specs.Array.{native_slot};
 ghost use Rattle.gb_hash.specs.Keys.{numbers_decide, slots_alike};
 
-use crate::dirty_hash::DirtyHash;
-use crate::key_rows::KeyRows;
+use crate::dirty_hash::{DirtyHash, hash_null};
+use crate::key_rows::{KeyRows, Steps};
 use crate::mixer::Mixer;
-use crate::steps::Steps;
-use crate::word_hash::hash_null;
 use gb_cols::chunked::ChunkedArray;
-use gb_cols::native::Native;
-use gb_cols::numeric::PolarsNumericType;
-use gb_cols::primitive::PrimitiveArray;
+use gb_cols::numeric::{Native, PolarsNumericType};
+use gb_cols::primitive::NumberValues;
 use gb_cols::series_trait::SeriesTrait;
 use std::sync::ledger::Ledger;
 
 /// The rows of a column of numbers, with its numbers as keys.
 #[derive(Drop)]
 pub struct NumRows<'a, T: PolarsNumericType, M: Mixer> {
-    pub column: &'a ChunkedArray<PrimitiveArray<T>>,
+    pub column: &'a ChunkedArray<NumberValues<T>>,
     pub mixer: M,
 }
 
 impl<'a, T: PolarsNumericType, M: Mixer> NumRows<'a, T, M> {
-    pub fn new(column: &'a ChunkedArray<PrimitiveArray<T>>, mixer: M) -> Self
+    pub fn new(column: &'a ChunkedArray<NumberValues<T>>, mixer: M) -> Self
         ensures column { result.column.now ≡ column.now }
         ensures mixer { result.mixer ≡ mixer }
     {
@@ -42,7 +39,7 @@ where
 
     ghost rows = { λ r. rows_of_slots T.Native.width (M.seed_of r.mixer) (M.mix_of r.mixer) r.column.now.slots };
 
-    ghost key_slot = { number_slot_of T.Native.number };
+    ghost key_slot = { native_slot T.Native.number };
 
     ghost keys_decide = { numbers_decide T.Native.eq T.Native.number T.Native.equal_by_number };
 
@@ -65,7 +62,7 @@ where
 // The hash of a number, or that of null.
 #[inline]
 fn hash_option<N: Native, M: Mixer>(mixer: &M, number: Option<N>) -> u64
-    ensures { let slot = number_slot_of N.number number in
+    ensures { let slot = native_slot N.number number in
         result ≡ hash_of N.width (M.seed_of mixer.now) (M.mix_of mixer.now) slot }
 {
     match number {

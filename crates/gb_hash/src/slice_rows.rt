@@ -6,9 +6,8 @@ ghost use Rattle.gb_defs.specs.Rows.{rows_of_slots};
 ghost use Rattle.gb_hash.specs.Keys.{key_slots, keys_decide_by, slots_alike};
 
 use crate::dirty_hash::DirtyHash;
-use crate::key_rows::KeyRows;
+use crate::key_rows::{KeyRows, Steps};
 use crate::mixer::Mixer;
-use crate::steps::Steps;
 use std::hash::Hash;
 use std::sync::ledger::Ledger;
 

@@ -17,8 +17,8 @@ use Rattle.gb_defs.proofs.SlotLemmas.{Decides-slot_eq}
 use Rattle.gb_cols.specs.Keys.{AreWide, AreWords, IsToldByWide, IsToldByWord, bytes_slot, key_slot, number_from, wide_slot, with_number, word_slot}
 use Rattle.gb_cols.specs.Native.{IsWhole, is_wide, unwidened, unworded}
 use Rattle.gb_paths.specs.Keys.{StandFor}
-use Rattle.gb_paths.specs.declared.keys.Keys.TheVariants.{Words, Wide}
-use Rattle.gb_paths.specs.declared.keys.Keys.TheVariants as keys
+use Rattle.gb_paths.specs.declared.into_groups.Keys.TheVariants.{Words, Wide}
+use Rattle.gb_paths.specs.declared.into_groups.Keys.TheVariants as keys
 
 -- slots in a form that tells them
 module _ (form back : Slot → Slot) (slots keys : List Slot) (are : keys ≡ map form slots) (told : All (λ slot. back (form slot) ≡ slot) slots) where

@@ -9,10 +9,10 @@ use Rattle.gb_cols.specs.Pool.{partitions_of, seed_of, threshold_of, workers_of}
 use Rattle.gb_cols.specs.declared.pool.Pool.{Pool}
 use Rattle.gb_paths.specs.Keys.{StandFor, are_bytes, rows_of_keys}
 use Rattle.gb_paths.specs.Tuples.{column_path, column_rows, path_value, tuples_of}
-use Rattle.gb_paths.specs.declared.keys.Keys.{Keys}
-use Rattle.gb_paths.specs.declared.keys.Keys.TheVariants.{Words, Wide, Texts, Bytes}
-use Rattle.gb_paths.specs.declared.path.Path as declared
-use Rattle.gb_paths.specs.declared.path.Path.TheVariants as way
+use Rattle.gb_paths.specs.declared.into_groups.Keys.{Keys}
+use Rattle.gb_paths.specs.declared.into_groups.Keys.TheVariants.{Words, Wide, Texts, Bytes}
+use Rattle.gb_paths.specs.declared.into_groups.Path as declared
+use Rattle.gb_paths.specs.declared.into_groups.Path.TheVariants as way
 
 sorted_path : (path : Path) (rows : Rows) (codes n : ℕ) → (path_groups path rows codes n true).pairs ≡ groups (same_slot_at rows.slot) (rows_below rows.count)
 sorted_path Nulls rows codes n = refl

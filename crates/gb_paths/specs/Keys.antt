@@ -7,8 +7,8 @@ use Rattle.gb_defs.specs.Path.{KeyKind, Numbers, ByteLists, kind_of}
 use Rattle.gb_defs.specs.Slot as slot
 use Rattle.gb_defs.specs.Rows.{Rows, StandsFor, rows_of_slots}
 use Rattle.gb_cols.specs.Keys.{bytes_slot, key_slot}
-use Rattle.gb_paths.specs.declared.keys.Keys.{Keys}
-use Rattle.gb_paths.specs.declared.keys.Keys.TheVariants.{Words, Wide, Texts, Bytes}
+use Rattle.gb_paths.specs.declared.into_groups.Keys.{Keys}
+use Rattle.gb_paths.specs.declared.into_groups.Keys.TheVariants.{Words, Wide, Texts, Bytes}
 
 -- the rows of keys, with their hashes under a seed
 abbrev pub rows_of_keys : ℕ → Keys → Rows

@@ -6,14 +6,12 @@ ghost use Rattle.gb_defs.specs.Rows.{table_groups};
 ghost use Rattle.gb_cols.specs.PlSmallStr.{IsNoMemory};
 ghost use Rattle.gb_groups.specs.GroupsType.{groups_of};
 
-use crate::all_rows::all_rows;
-use crate::row_groups::group_members;
+use crate::row_groups::{all_rows, group_members};
 use crate::row_hashes::hash_rows;
 use gb_cols::error::PolarsResult;
 use gb_groups::groups_idx::GroupsIdx;
 use gb_groups::groups_type::GroupsType;
-use gb_hash::key_rows::KeyRows;
-use gb_hash::steps::Steps;
+use gb_hash::key_rows::{KeyRows, Steps};
 use std::alloc::Global;
 use std::marker::Brand;
 use std::sync::ledger::{Blank, Ledger};

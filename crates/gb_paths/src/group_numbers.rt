@@ -11,8 +11,7 @@ ghost use Rattle.gb_paths.specs.Numbers.{AreEntries, groups_among, pairs_by};
 use gb_cols::error::PolarsResult;
 use gb_cols::nullable_idx::IdxSize;
 use gb_hash::group_table::GroupTable;
-use gb_hash::key_rows::KeyRows;
-use gb_hash::steps::Steps;
+use gb_hash::key_rows::{KeyRows, Steps};
 use std::alloc::Global;
 use std::sync::ledger::Ledger;
 

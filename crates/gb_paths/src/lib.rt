@@ -3,13 +3,10 @@
 //! the order of their first rows, and partitions in their own order where no other is asked for.
 #![tactic(auto)]
 
-mod all_rows;
 pub mod group_by;
 mod group_numbers;
 pub mod into_groups;
-pub mod keys;
 mod partitions;
-mod path;
 mod row_groups;
 mod row_hashes;
 mod row_lists;

@@ -9,7 +9,7 @@ ghost use Rattle.gb_cols.specs.PlSmallStr.{IsNoMemory};
 ghost use Rattle.gb_groups.specs.Groups.{lists_of};
 ghost use Rattle.gb_paths.specs.Partitions.{AreWithin, rows_by_partition};
 
-use crate::all_rows::all_rows;
+use crate::row_groups::all_rows;
 use crate::row_lists::row_lists;
 use gb_cols::error::{PolarsError, PolarsResult};
 use gb_groups::groups_idx::IdxVec;

@@ -1,7 +1,8 @@
-//! The groups of some of the rows, by one table.
+//! The groups of all or of some of the rows, by one table.
 
 ghost use Rattle.std.specs.Prelude.{◌≡◌, ◌+◌, ◌≤◌, length, zip, IfOk, IfErr, OnOk};
 ghost use Rattle.std.specs.List.Sorted.{IsNonDecreasing};
+ghost use Rattle.gb_defs.specs.Classes.{rows_below};
 ghost use Rattle.gb_defs.specs.Groups.{AreMembers, HasRowNumbers};
 ghost use Rattle.gb_defs.specs.Rows.{AreHashes};
 ghost use Rattle.gb_cols.specs.PlSmallStr.{IsNoMemory};
@@ -13,10 +14,22 @@ use crate::row_lists::row_lists;
 use gb_cols::error::PolarsResult;
 use gb_cols::nullable_idx::IdxSize;
 use gb_groups::groups_idx::IdxVec;
-use gb_hash::key_rows::KeyRows;
-use gb_hash::steps::Steps;
-use std::alloc::Global;
+use gb_hash::key_rows::{KeyRows, Steps};
+use std::alloc::{AllocError, Global};
 use std::sync::ledger::Ledger;
+
+/// All rows of so many.
+pub fn all_rows(alloc: Global, count: usize) -> Result<Vec<IdxSize>, AllocError>
+    requires { HasRowNumbers count }
+    ensures all { IfOk result (λ rows. rows.items ≡ rows_below count) }
+    ensures members { IfOk result (λ rows. AreMembers count rows.items) }
+{
+    let mut rows = Vec::with_capacity(alloc, count)?;
+    for row in 0..count {
+        rows.push_reserved(row as IdxSize);
+    }
+    Ok(rows)
+}
 
 /// The first row of each group, and its rows.
 #[derive(Drop)]

@@ -16,7 +16,7 @@ use gb_cols::nullable_idx::IdxSize;
 use gb_cols::pool::Pool;
 use gb_cols::series_trait::SeriesTrait;
 use gb_cols::small_str::PlSmallStr;
-use gb_groups::groups_type::GroupsType;
+use gb_groups::groups_type::{GroupsIndicator, GroupsType};
 use gb_hash::mixer::{Mixer, SeedMixer};
 use gb_hash::num_rows::NumRows;
 use gb_series::series::Series;
@@ -69,12 +69,20 @@ fn are(groups: &GroupsType, flagged: bool, wanted: &[Wanted<'_>]) -> bool {
     if groups.is_sorted_flag() != flagged || groups.len() != wanted.len() {
         return false;
     }
-    for ((first, rows), group) in groups.unwrap_idx().iter().zip(wanted.iter()) {
-        if first != group.0 || rows.as_slice() != group.1 {
+    for (group, (first, rows)) in groups.iter().zip(wanted.iter()) {
+        if group.first() != *first || !has_list(&group, rows) {
             return false;
         }
     }
     true
+}
+
+// Whether the group has the form of a row list, and this one.
+fn has_list(group: &GroupsIndicator<'_>, rows: &[IdxSize]) -> bool {
+    match group {
+        GroupsIndicator::Idx((_, list)) => list.as_slice() == rows,
+        GroupsIndicator::Slice(_) => false,
+    }
 }
 
 fn numbers(alloc: Global, values: &[Option<i64>]) -> PolarsResult<Int64Chunked>
@@ -158,13 +166,27 @@ fn many_rows_are_two<T: Threads + Sync>(rt: &T, alloc: Global, pool: &Pool) -> P
     let mixer = SeedMixer::new(pool.seed());
     let groups = group_by_threaded_slice(rt, alloc, &keys, mixer, 3, true, pool, &FreeGate)?;
     let mut rows = 0usize;
-    for (_, list) in groups.unwrap_idx().iter() {
-        rows = rows.wrapping_add(list.len());
+    for group in groups.iter() {
+        rows = rows.wrapping_add(group.len());
     }
     Ok(groups.len() == 2 && rows == 10_000)
 }
 
-// Whether a column of texts has these groups by either path.
+// Whether a column has these groups: of all rows by partitions and sorted, or by one table.
+fn has_groups<T: Threads + Sync, C: IntoGroupsType>(
+    rt: &T,
+    pool: &Pool,
+    column: &C,
+    sorted: bool,
+    wanted: &[Wanted<'_>],
+) -> PolarsResult<bool>
+    requires few { HasRowNumbers (length (C.value column.now).slots) }
+{
+    let groups = column.group_tuples(rt, sorted, sorted, pool)?;
+    Ok(are(&groups, sorted, wanted))
+}
+
+// Whether a column of texts, and a series of them, have these groups.
 fn texts_are<T: Threads + Sync>(
     rt: &T,
     alloc: Global,
@@ -175,12 +197,10 @@ fn texts_are<T: Threads + Sync>(
     requires few { HasRowNumbers (length values.now) }
 {
     let column = texts(alloc, values)?;
-    let groups = column.group_tuples(rt, true, true, pool)?;
-    if !are(&groups, true, wanted) {
+    if !has_groups(rt, pool, &column, true, wanted)? {
         return Ok(false);
     }
-    let groups = Series::String(column).group_tuples(rt, false, false, pool)?;
-    Ok(are(&groups, false, wanted))
+    has_groups(rt, pool, &Series::String(column), false, wanted)
 }
 
 // The same of a column of numbers.
@@ -194,12 +214,10 @@ fn numbers_are<T: Threads + Sync>(
     requires few { HasRowNumbers (length values.now) }
 {
     let column = numbers(alloc, values)?;
-    let groups = column.group_tuples(rt, true, true, pool)?;
-    if !are(&groups, true, wanted) {
+    if !has_groups(rt, pool, &column, true, wanted)? {
         return Ok(false);
     }
-    let groups = Series::Int64(column).group_tuples(rt, false, false, pool)?;
-    Ok(are(&groups, false, wanted))
+    has_groups(rt, pool, &Series::Int64(column), false, wanted)
 }
 
 // Columns of each type.

@@ -1,17 +1,17 @@
 //! Frames of columns.
 
-mod columns;
-
-ghost use Rattle.std.specs.Prelude.{◌≡◌, ◌==◌, ℕ, ◌<◌, ◌^◌, length, map, None, Some, IfOk, IfErr, IfSome, IfNone, All, slice_get};
-ghost use Rattle.gb_defs.specs.Column.{find_column, frame_height, IsFrame};
-ghost use Rattle.gb_cols.specs.PlSmallStr.{IsNoMemory};
+ghost use Rattle.std.specs.Prelude.{◌≡◌, ◌==◌, ℕ, ◌<◌, ◌^◌, length, map, None, Some, IfOk, IfErr, IfSome, IfNone, All, option_map, slice_get};
+ghost use Rattle.gb_defs.specs.Column.{all_have_length as are_all_long, find_column, first_repeated, frame_height, names_of, IsFrame};
+ghost use Rattle.gb_cols.specs.PlSmallStr.{name_of, IsNoMemory};
 ghost use Rattle.gb_cols.specs.PolarsError.{Explains};
+ghost use Rattle.gb_series.specs.Series.{value_of};
 
 use crate::series::{Column, Series};
 use gb_cols::error::{PolarsError, PolarsResult};
 use gb_cols::nullable_idx::IdxSize;
 use gb_cols::series_trait::SeriesTrait;
 use gb_cols::small_str::PlSmallStr;
+use std::collections::HashSet;
 use std::marker::Model;
 
 /// Columns of one length with different names.
@@ -46,11 +46,11 @@ impl DataFrame {
             IfOk result (λ f. (f ≡ frame) × (frame_fault frame ≡ None)) }
         ensures err { IfErr result (λ e. Explains e (frame_fault (map value_of columns.items))) }
     {
-        if let Some(name) = columns::repeated_name(&columns)? {
+        if let Some(name) = repeated_name(&columns)? {
             return Err(PolarsError::Duplicate(name.try_clone()?));
         }
-        let height = columns::height_of(&columns);
-        if !columns::all_have_length(&columns, height) {
+        let height = height_of(&columns);
+        if !all_have_length(&columns, height) {
             return Err(PolarsError::ShapeMismatch);
         }
         Ok(DataFrame { columns })
@@ -62,7 +62,7 @@ impl DataFrame {
         ensures small { result < 2 ^ 63 }
         ensures frame { IsFrame self.now }
     {
-        columns::height_of(&self.columns)
+        height_of(&self.columns)
     }
 
     /// How many columns there are.
@@ -92,7 +92,7 @@ impl DataFrame {
             (λ place. slice_get self.now place ≡ find_column self.now name.now) }
         ensures none { IfNone result (find_column self.now name.now ≡ None) }
     {
-        columns::position_of(&self.columns, name)
+        position_of(&self.columns, name)
     }
 
     /// The column of this name.
@@ -101,7 +101,7 @@ impl DataFrame {
             (λ column. find_column self.now name.now ≡ Some (value_of column.now)) }
         ensures err { IfErr result (λ e. Explains e (missing_column self.now name.now)) }
     {
-        match columns::position_of(&self.columns, name) {
+        match position_of(&self.columns, name) {
             Some(place) => Ok(&self.columns[place]),
             None => {
                 let name = PlSmallStr::from_str(*self.columns.allocator(), name)?;
@@ -122,4 +122,57 @@ impl DataFrame {
         }
         Ok(DataFrame { columns })
     }
+}
+
+// The length of the first column, 0 without columns.
+fn height_of(columns: &Vec<Series>) -> usize
+    ensures value { result ≡ frame_height (map value_of columns.now.items) }
+    ensures small { result < 2 ^ 63 }
+{
+    match columns.first() {
+        Some(column) => column.len(),
+        None => 0,
+    }
+}
+
+// Whether all columns have a length.
+fn all_have_length(columns: &[Series], height: usize) -> bool
+    ensures { result ≡ are_all_long height (map value_of columns.now) }
+{
+    for column in columns {
+        if column.len() != height {
+            return false;
+        }
+    }
+    true
+}
+
+// The first name that stood before.
+fn repeated_name(columns: &Vec<Series>) -> PolarsResult<Option<&PlSmallStr>>
+    ensures ok { let names = names_of (map value_of columns.now.items) in
+        IfOk result (λ name. option_map (λ n. name_of n.now) name ≡ first_repeated names) }
+    ensures err { IfErr result IsNoMemory }
+{
+    let mut seen: HashSet<&str> = HashSet::new(*columns.allocator());
+    for column in columns {
+        if !seen.insert(column.name().as_str())? {
+            return Ok(Some(column.name()));
+        }
+    }
+    Ok(None)
+}
+
+// Where the first column of this name stands.
+fn position_of(columns: &[Series], name: &str) -> Option<usize>
+    ensures within { IfSome result (λ place. place < length columns.now) }
+    ensures some { let frame = map value_of columns.now in
+        IfSome result (λ place. slice_get frame place ≡ find_column frame name.now) }
+    ensures none { IfNone result (find_column (map value_of columns.now) name.now ≡ None) }
+{
+    for (place, column) in columns.iter().enumerate() {
+        if column.name().as_str() == name {
+            return Some(place);
+        }
+    }
+    None
 }

@@ -3,11 +3,10 @@
 use crate::frame::DataFrame;
 use crate::series::{IntoSeries, Series};
 use gb_cols::chunked::{Int64Chunked, StringChunked, UInt32Chunked};
-use gb_cols::data_type::DataType;
+use gb_cols::data_type::{DataType, IsSorted};
 use gb_cols::error::{PolarsError, PolarsResult};
 use gb_cols::series_trait::SeriesTrait;
 use gb_cols::small_str::PlSmallStr;
-use gb_cols::sorted::IsSorted;
 use std::alloc::Global;
 use std::test::Fail;
 
@@ -75,13 +74,25 @@ fn columns_of_each_type(rt: HostRuntime) -> Result<(), Fail> {
     Ok(())
 }
 
+// A column of one value with a null more.
+fn with_null(mut column: Series) -> PolarsResult<Series> {
+    if column.len() == 1 {
+        column.push_null()?;
+    }
+    Ok(column)
+}
+
+// Whether the column is a value and a null, with no flag.
+fn ends_in_null(column: &Series) -> bool {
+    column.len() == 2
+        && column.is_valid(0)
+        && !column.is_valid(1)
+        && column.is_sorted_flag() == IsSorted::Not
+}
+
 #[test]
 fn a_null_more(rt: HostRuntime) -> Result<(), Fail> {
-    let mut column = numbers(rt.alloc(), "a", &[7])?;
-    assert_eq!(rt; column.len(), 1);
-    column.push_null()?;
-    assert_eq!(rt; column.len(), 2);
-    assert_eq!(rt; (column.is_valid(0), column.is_valid(1)), (true, false));
-    assert_eq!(rt; column.is_sorted_flag(), IsSorted::Not);
+    let column = with_null(numbers(rt.alloc(), "a", &[7])?)?;
+    assert!(rt; ends_in_null(&column));
     Ok(())
 }

@@ -5,9 +5,9 @@ use Rattle.gb_defs.specs.Column.{Frame, find_column}
 use Rattle.gb_defs.specs.Fault.{Fault, ColumnNotFound, Operation, is_groups, missing_fault, unfit_at, unfit_fault, unfit_or}
 use Rattle.gb_cols.specs.PlSmallStr.{name_of}
 use Rattle.gb_series.specs.Frame.{missing_column}
-use Rattle.gb_tool.specs.declared.request.Agg.{Agg}
-use Rattle.gb_tool.specs.declared.request.GroupByMethod.{GroupByMethod}
-use Rattle.gb_tool.specs.declared.request.GroupByMethod.TheVariants.{Sum, Count}
+use Rattle.gb_tool.specs.declared.words.Agg.{Agg}
+use Rattle.gb_tool.specs.declared.words.GroupByMethod.{GroupByMethod}
+use Rattle.gb_tool.specs.declared.words.GroupByMethod.TheVariants.{Sum, Count}
 use Rattle.gb_tool.specs.Grouping.{unfit_cause}
 use Rattle.gb_tool.specs.Request.{aggs_of, method_of}
 use Rattle.gb_tool.proofs.CauseLemmas.{first_cause, none_at}

@@ -1,10 +1,10 @@
 -- The words of types in a header, and the colon before them.
-use Rattle.std.proofs.Common.{◌≡◌, ◌≢◌, ◌==◌, ℕ, ◌+◌, ◌-◌, ◌<◌, ◌≤◌, zero, suc, Bool, true, false, not, ◌||◌, inl, inr, List, [], ◌∷◌, length, get_or, take, drop, refl, sym, ◌∙◌, ap, arith, Option, Some, None, codes}
+use Rattle.std.proofs.Common.{◌≡◌, ◌≢◌, ◌==◌, ℕ, ◌+◌, ◌-◌, ◌<◌, ◌≤◌, zero, suc, Bool, true, false, not, ◌||◌, inl, inr, List, [], ◌∷◌, length, get_or, take, drop, refl, sym, ◌∙◌, ap, arith, map, option_map, Option, Some, None, codes}
 use Rattle.std.specs.Fmt.{digits}
 use Rattle.std.specs.Prelude.{if◌then◌else◌}
 use Rattle.std.proofs.lemmas.List.{length-drop, get_or-drop}
 use Rattle.std.specs.Option.{MatchOption}
-use Rattle.std.specs.List.{list_any, list_all, after_last, before_last, suffix_len}
+use Rattle.std.specs.List.{list_any, list_all, after_last, before_last, range_with_len, suffix_len}
 use Rattle.std.specs.Str.{bytes_eq, NoCharPasses}
 use Rattle.std.specs.Str.Pattern.{HasCharAt}
 use Rattle.std.specs.Cmp.Lexicographic.{bytes_decides}
@@ -13,29 +13,14 @@ use Rattle.std.proofs.lemmas.List.Sums.{suffix_len_is}
 use Rattle.std.proofs.lemmas.Str.Pattern.{NoCharPasses-char}
 use Rattle.gb_defs.specs.ColumnType.{FlatType, ColumnType, Flat, text}
 use Rattle.gb_defs.specs.Cell.{is_read_flat}
-use Rattle.gb_defs.specs.TypeWord.{type_words, word_among, type_of_word}
+use Rattle.gb_defs.specs.TypeWord.{decimal_word, decimal_words, type_words, word_among, type_of_word}
 use Rattle.gb_defs.specs.Table.{is_colon, Head, head_of, head_by_word}
-use Rattle.gb_tool.specs.Head.{readable_head, read_flat, read_type, unread_words}
+use Rattle.gb_tool.specs.Head.{decimal_scales, decimal_type_of, decimals_of, readable_head, read_flat, read_type, scale_among, unread_words}
 
 -- ---- words
 
--- the words of the types that are read
-abbrev pub read_words : List (List ℕ)
-read_words =
-    codes "u8" ∷ codes "u16" ∷ codes "u32" ∷ codes "u64" ∷ codes "i8" ∷ codes "i16" ∷ codes "i32" ∷ codes "i64" ∷ codes "i128" ∷ codes "str" ∷ []
-
--- a type that is read has one of them
-abbrev fits_word : List ℕ × FlatType → Bool
-fits_word w = not (is_read_flat w.1) || list_any (bytes_eq w.0) read_words
-
 pub apart : (word other : List ℕ) → word ≢ other → bytes_eq word other ≡ false
 apart word other n = false_from_ne_true (bytes_eq word other) (λ e. n ((bytes_decides word other).0 e))
-
-read_word : (w : List ℕ × FlatType) → fits_word w ≡ true → list_any (bytes_eq w.0) read_words ≡ false → is_read_flat w.1 ≡ false
-read_word w fits other = elim (cases_Bool (is_read_flat w.1)) [
-  | inl h ↦ let bad = rw (h, other) at fits in cc
-  | inr h ↦ h
-]
 
 not_read : (t : FlatType) → None ≡ read_flat (Some t) → is_read_flat t ≡ false
 not_read t e = elim (cases_Bool (is_read_flat t)) [
@@ -60,30 +45,36 @@ other_word : (w : List ℕ × FlatType) (ws : List (List ℕ × FlatType)) (word
 other_word w ws word None h t = any_other (is_read_flat w.1) w.0 (unread_words ws) word h ∙ t
 other_word w ws word (Some f) h t = (t.0, any_other (is_read_flat w.1) w.0 (unread_words ws) word h ∙ t.1)
 
-words_tell : (ws : List (List ℕ × FlatType)) (word : List ℕ) → list_all fits_word ws ≡ true → list_any (bytes_eq word) read_words ≡ false → Tells ws word (word_among ws word)
-words_tell [] word fits other = refl
-words_tell (w ∷ ws) word fits other =
-    let f = and_parts (fits_word w) (list_all fits_word ws) fits in
-    let rest = words_tell ws word f.1 other in
+-- words whose types are all read
+all_read : (ws : List (List ℕ × FlatType)) (word : List ℕ) → list_all (λ w. is_read_flat w.1) ws ≡ true → read_flat (word_among ws word) ≡ option_map (λ t. Flat t) (word_among ws word)
+all_read [] word all = refl
+all_read (w ∷ ws) word all =
+    let parts = and_parts (is_read_flat w.1) (list_all (λ w. is_read_flat w.1) ws) all in
     elim (cases_Bool (bytes_eq word w.0)) [
-      | inl e ↦
-          let same = (bytes_decides word w.0).0 e in
-          let unread = read_word w f.0 (ap (λ v. list_any (bytes_eq v) read_words) (sym same) ∙ other) in
-          let here = (bytes_decides w.0 word).1 (sym same) in
-          rw (e, unread, here) (refl, refl)
-      | inr e ↦ rw e (other_word w ws word (word_among ws word) (word_turned word w.0 e) rest)
+      | inl same ↦ rw (same, parts.0) refl
+      | inr other ↦ rw other (all_read ws word parts.1)
     ]
 
-type_word_tells : (word : List ℕ) → list_any (bytes_eq word) read_words ≡ false → Tells type_words word (type_of_word word)
-unfolding type_words digits
-type_word_tells word other = words_tell type_words word refl other
+pub decimals_read : (word : List ℕ) → read_flat (word_among decimal_words word) ≡ decimal_type_of word
+decimals_read word = all_read decimal_words word refl
 
-unread_type : (word : List ℕ) (o : Option FlatType) → Tells type_words word o → None ≡ read_flat o
-unread_type word None t = refl
-unread_type word (Some t) tells = rw tells.0
+-- the words of decimals tell their scales
+abbrev scaled : List ℕ → List (List ℕ × ℕ)
+scaled scales = map (λ scale. ((decimal_word scale).0, scale)) scales
 
-pub no_read_type : (word : List ℕ) → list_any (bytes_eq word) read_words ≡ false → None ≡ read_type word
-no_read_type word other = unread_type word (type_of_word word) (type_word_tells word other)
+among_scales : (scales word : List ℕ) → option_map (λ t. Flat t) (word_among (map decimal_word scales) word) ≡ option_map decimals_of (scale_among (scaled scales) word)
+among_scales [] word = refl
+among_scales (scale ∷ scales) word = elim (cases_Bool (bytes_eq word (decimal_word scale).0)) [
+  | inl same ↦ rw same refl
+  | inr other ↦ rw other (among_scales scales word)
+]
+
+scales_are : scaled (range_with_len 0 39) ≡ decimal_scales
+unfolding digits
+scales_are = refl
+
+pub scales_told : (word : List ℕ) → decimal_type_of word ≡ option_map decimals_of (scale_among decimal_scales word)
+scales_told word = among_scales (range_with_len 0 39) word ∙ ap (λ ws. option_map decimals_of (scale_among ws word)) scales_are
 
 -- what the words say of a word whose type is not read
 unread_tells : (ws : List (List ℕ × FlatType)) (word : List ℕ) → None ≡ read_flat (word_among ws word) → Tells ws word (word_among ws word)

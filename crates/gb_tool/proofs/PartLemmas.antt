@@ -9,7 +9,7 @@ use Rattle.gb_defs.specs.Answer.{aggregated, answer_name, answer_names, slots_in
 use Rattle.gb_defs.specs.Fault.{Fault, duplicate_of}
 use Rattle.gb_cols.specs.PlSmallStr.{name_of}
 use Rattle.gb_series.specs.Frame.{frame_fault}
-use Rattle.gb_tool.specs.declared.request.Agg.{Agg}
+use Rattle.gb_tool.specs.declared.words.Agg.{Agg}
 use Rattle.gb_tool.specs.Grouping.{aggregates_over, answer_parts}
 use Rattle.gb_tool.specs.Request.{agg_of, aggs_of}
 

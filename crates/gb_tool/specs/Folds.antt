@@ -1,13 +1,13 @@
 -- Folds over lists of rows.
-use Rattle.std.specs.Prelude.{ℕ, List, length, map, All, Option, None}
+use Rattle.std.specs.Prelude.{ℕ, List, length, map, All, Option, Some, None, if◌then◌else◌}
 use Rattle.gb_defs.specs.Slot.{Slot}
 use Rattle.gb_defs.specs.ColumnType.{ColumnType}
 use Rattle.gb_defs.specs.Column.{ColumnValue, fresh_column}
-use Rattle.gb_defs.specs.Fold.{Method, fold_of, number_slot}
+use Rattle.gb_defs.specs.Fold.{Method, Sum, fold_of, number_slot, sum_type}
 use Rattle.gb_defs.specs.Groups.{AreMembers, Grouping, HasRowNumbers, lists_in}
-use Rattle.gb_defs.specs.Fault.{Fault, unfit_operation, unfit_or}
+use Rattle.gb_defs.specs.Fault.{Fault, has_sum, unfit_operation, unfit_or}
 use Rattle.gb_cols.specs.PlSmallStr.{name_of}
-use Rattle.gb_tool.specs.declared.request.Agg.{Agg}
+use Rattle.gb_tool.specs.declared.words.Agg.{Agg}
 use Rattle.gb_tool.specs.Request.{method_of}
 
 -- the fold of a column over a list of rows
@@ -21,6 +21,10 @@ rows_fold rows = number_slot (length rows)
 -- a column of what is made of each list of rows
 abbrev pub fold_column : List ℕ → ColumnType → (List ℕ → Slot) → List (List ℕ) → ColumnValue
 fold_column name dtype fold lists = fresh_column name dtype (map fold lists)
+
+-- the sums of a column over lists of rows, where its type has sums
+abbrev pub sums_of_column : List ℕ → ColumnValue → List (List ℕ) → Option ColumnValue
+sums_of_column name c lists = if has_sum c.dtype then Some (fold_column name (sum_type c.dtype) (fold_in Sum c) lists) else None
 
 -- why an aggregate of a column is refused for the column's type
 abbrev pub unfit_in : List ℕ → Method → ColumnValue → Option Fault

@@ -4,12 +4,12 @@ use Rattle.gb_defs.specs.Fold as fold
 use Rattle.gb_defs.specs.Request as asked
 use Rattle.gb_cols.specs.PlSmallStr.{name_of}
 use Rattle.gb_cols.specs.declared.small_str.PlSmallStr.{PlSmallStr}
-use Rattle.gb_tool.specs.declared.request.GroupByMethod.{GroupByMethod}
-use Rattle.gb_tool.specs.declared.request.GroupByMethod.TheVariants.{Sum, Count}
-use Rattle.gb_tool.specs.declared.request.Agg.{Agg}
-use Rattle.gb_tool.specs.declared.request.ToolOptions.{ToolOptions}
-use Rattle.gb_tool.specs.declared.request.Request.{Request}
-use Rattle.gb_tool.specs.declared.request.Request.TheVariants.{Group}
+use Rattle.gb_tool.specs.declared.words.GroupByMethod.{GroupByMethod}
+use Rattle.gb_tool.specs.declared.words.GroupByMethod.TheVariants.{Sum, Count}
+use Rattle.gb_tool.specs.declared.words.Agg.{Agg}
+use Rattle.gb_tool.specs.declared.words.ToolOptions.{ToolOptions}
+use Rattle.gb_tool.specs.declared.words.Request.{Request}
+use Rattle.gb_tool.specs.declared.words.Request.TheVariants.{Group}
 
 abbrev pub method_of : GroupByMethod → fold.Method
 method_of Sum = fold.Sum

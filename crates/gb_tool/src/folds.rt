@@ -1,7 +1,7 @@
 //! The columns of an answer: each aggregate over the rows of each group.
 
-ghost use Rattle.std.specs.Prelude.{◌≡◌, length, All, None, Some, IfOk, IfErr, OnOk, true};
-ghost use Rattle.gb_defs.specs.ColumnType.{Flat, text, uint32};
+ghost use Rattle.std.specs.Prelude.{◌≡◌, length, All, None, Some, IfOk, IfErr, OnOk, option_map, true};
+ghost use Rattle.gb_defs.specs.ColumnType.{Flat, uint32};
 ghost use Rattle.gb_defs.specs.Column.{content};
 ghost use Rattle.gb_defs.specs.Fold.{sum_type, Sum, Count};
 ghost use Rattle.gb_defs.specs.Groups.{AreMembers, HasRowNumbers, lists_in};
@@ -9,28 +9,30 @@ ghost use Rattle.gb_defs.specs.Answer.{aggregated, answer_name};
 ghost use Rattle.gb_defs.specs.Fault.{has_sum, InvalidOperation, OfSum};
 ghost use Rattle.gb_cols.specs.PolarsError.{Explains};
 ghost use Rattle.gb_cols.specs.PlSmallStr.{name_of, IsNoMemory};
-ghost use Rattle.gb_cols.specs.Array.{number_slot_of};
+ghost use Rattle.gb_cols.specs.Array.{native_slot};
 ghost use Rattle.gb_groups.specs.GroupsIndicator.{pair_of};
 ghost use Rattle.gb_groups.specs.GroupsType.{groups_of};
 ghost use Rattle.gb_series.specs.Series.{value_of};
-ghost use Rattle.gb_tool.specs.Folds.{AreGroupsOf, agg_unfit, fold_column, fold_in, unfit_in};
+ghost use Rattle.gb_tool.specs.Folds.{AreGroupsOf, agg_unfit, fold_column, fold_in, sums_of_column, unfit_in};
 ghost use Rattle.gb_tool.specs.Request.{agg_of, method_of};
 
+mod group_sums;
 mod number_fold;
 #[cfg(test)]
 mod tests;
 
-use crate::request::{Agg, GroupByMethod};
-use gb_cols::chunked::{ChunkedArray, StringChunked, UInt32Chunked};
+use crate::words::{Agg, GroupByMethod};
+use gb_cols::chunked::{ChunkedArray, UInt32Chunked};
 use gb_cols::error::{Operation, PolarsError, PolarsResult};
 use gb_cols::numeric::PolarsNumericType;
-use gb_cols::primitive::PrimitiveArray;
+use gb_cols::primitive::NumberValues;
 use gb_cols::series_trait::SeriesTrait;
 use gb_cols::small_str::PlSmallStr;
 use gb_groups::groups_type::{GroupsIndicator, GroupsType};
-use gb_series::map_numbers;
+use gb_series::map_sums;
 use gb_series::series::Series;
-use number_fold::{NumberFold, RowCount, SumOf, ValidCount};
+use group_sums::GroupSums;
+use number_fold::{NumberFold, RowCount, RowList, RowRun, ValidCount};
 use std::alloc::Global;
 
 /// The aggregate over the rows of each group, unless the type of the column has none.
@@ -49,7 +51,7 @@ pub fn aggregate(
 {
     let name = name_of_answer(alloc, agg)?;
     match agg.method {
-        GroupByMethod::Sum => column_sums(name, column, &agg.column, groups),
+        GroupByMethod::Sum => column_sums(alloc, name, column, &agg.column, groups),
         GroupByMethod::Count { include_nulls } => Ok(Series::UInt32(column_counts(
             alloc,
             name,
@@ -75,8 +77,24 @@ fn name_of_answer(alloc: Global, agg: &Agg) -> PolarsResult<PlSmallStr>
     PlSmallStr::from_str(alloc, name.as_str())
 }
 
-// The sum of a column over each group, unless it is a column of texts.
+// The sums of a column, None where its type has none.
+fn series_sums(
+    name: PlSmallStr,
+    column: &Series,
+    groups: &GroupsType,
+) -> PolarsResult<Option<Series>>
+    requires { AreGroupsOf (value_of column.now) (groups_of groups.now) }
+    ensures ok { let lists = lists_in (groups_of groups.now) in
+        IfOk result (λ sums. option_map value_of sums
+        ≡ sums_of_column (name_of name) (value_of column.now) lists) }
+    ensures err { IfErr result IsNoMemory }
+{
+    map_sums!(column, column => column.group_sums(name, groups)?)
+}
+
+// The sums of a column, unless its type has none.
 fn column_sums(
+    alloc: Global,
     name: PlSmallStr,
     column: &Series,
     asked: &PlSmallStr,
@@ -90,37 +108,20 @@ fn column_sums(
     ensures err { IfErr result (λ e.
         Explains e (unfit_in (name_of asked.now) Sum (value_of column.now))) }
 {
-    map_numbers!(
-        column,
-        numbers => sums(name, numbers, groups)?,
-        texts => Err(text_sum(texts, asked))
-    )
-}
-
-// The refusal of a sum of texts.
-fn text_sum(texts: &StringChunked, asked: &PlSmallStr) -> PolarsError
-    ensures typed { texts.now.dtype ≡ text }
-    ensures cause { Explains result (Some (InvalidOperation OfSum (name_of asked.now))) }
-{
-    match PlSmallStr::from_str(texts.allocator(), asked.as_str()) {
-        Ok(name) => PolarsError::InvalidOperation(Operation::Sum, name),
-        Err(e) => e,
+    match series_sums(name, column, groups)? {
+        Some(sums) => Ok(sums),
+        None => Err(no_sum(alloc, asked)),
     }
 }
 
-// The sum over each group, in the type of the column.
-fn sums<T: PolarsNumericType>(
-    name: PlSmallStr,
-    column: &ChunkedArray<PrimitiveArray<T>>,
-    groups: &GroupsType,
-) -> PolarsResult<ChunkedArray<PrimitiveArray<T>>>
-    requires { AreGroupsOf column.now (groups_of groups.now) }
-    ensures typed { column.now.dtype ≡ Flat T.Native.flat }
-    ensures ok { IfOk result (λ c. c ≡ fold_column (name_of name) (Flat T.Native.flat)
-        (fold_in Sum column.now) (lists_in (groups_of groups.now))) }
-    ensures err { IfErr result IsNoMemory }
+// The refusal of a sum.
+fn no_sum(alloc: Global, asked: &PlSmallStr) -> PolarsError
+    ensures { Explains result (Some (InvalidOperation OfSum (name_of asked.now))) }
 {
-    fold_groups(column.allocator(), name, &SumOf::new(column), groups)
+    match PlSmallStr::from_str(alloc, asked.as_str()) {
+        Ok(name) => PolarsError::InvalidOperation(Operation::Sum, name),
+        Err(e) => e,
+    }
 }
 
 // The number of rows, or of valid slots, of each group.
@@ -145,19 +146,19 @@ fn column_counts(
 }
 
 // The fold over each group.
-fn fold_groups<F: NumberFold>(
+pub(crate) fn fold_groups<F: NumberFold>(
     alloc: Global,
     name: PlSmallStr,
     fold: &F,
     groups: &GroupsType,
-) -> PolarsResult<ChunkedArray<PrimitiveArray<F::Out>>>
+) -> PolarsResult<ChunkedArray<NumberValues<F::Out>>>
     requires rows { All (AreMembers (F.height fold.now)) (lists_in (groups_of groups.now)) }
     requires few { HasRowNumbers (length (groups_of groups.now).pairs) }
     ensures ok { IfOk result (λ c. c ≡ fold_column (name_of name) (Flat F.Out.Native.flat)
         (F.fold fold.now) (lists_in (groups_of groups.now))) }
     ensures err { IfErr result IsNoMemory }
 {
-    let mut folded: ChunkedArray<PrimitiveArray<F::Out>> = ChunkedArray::new(alloc, name);
+    let mut folded: ChunkedArray<NumberValues<F::Out>> = ChunkedArray::new(alloc, name);
     folded.reserve(groups.len())?;
     for group in groups.iter() {
         folded.push(fold_group(fold, &group))?;
@@ -171,9 +172,10 @@ fn fold_group<F: NumberFold>(
     group: &GroupsIndicator<'_>,
 ) -> Option<<F::Out as PolarsNumericType>::Native>
     requires { AreMembers (F.height fold.now) (pair_of group.now).1 }
-    ensures { number_slot_of F.Out.Native.number result ≡ F.fold fold.now (pair_of group.now).1 }
+    ensures { native_slot F.Out.Native.number result ≡ F.fold fold.now (pair_of group.now).1 }
 {
     match group {
-        GroupsIndicator::Idx((_, rows)) => fold.over(rows),
+        GroupsIndicator::Idx((_, rows)) => fold.over(&RowList::new(rows)),
+        GroupsIndicator::Slice([start, count]) => fold.over(&RowRun::new(*start, *count)),
     }
 }

@@ -12,12 +12,12 @@ ghost use Rattle.gb_defs.specs.Groups.{AreMembers, HasRowNumbers, IsWellFormed, 
 ghost use Rattle.gb_cols.specs.PlSmallStr.{IsNoMemory, name_of};
 ghost use Rattle.gb_groups.specs.GroupsType.{groups_of};
 ghost use Rattle.gb_series.specs.Series.{value_of};
-ghost use Rattle.gb_tool.specs.Grouping.{answer_parts, firsts_in, unfit_cause};
+ghost use Rattle.gb_tool.specs.Grouping.{aggregates_over, answer_parts, firsts_in, unfit_cause};
 ghost use Rattle.gb_tool.specs.Request.{agg_of, aggs_of};
 ghost use Rattle.gb_tool.specs.Text.{contents_of};
 
 use crate::folds::aggregate;
-use crate::request::Agg;
+use crate::words::Agg;
 use gb_cols::device::Gate;
 use gb_cols::error::{PolarsError, PolarsResult};
 use gb_cols::pool::Pool;
@@ -69,7 +69,7 @@ fn group_by_key<R: Threads + Sync, G: Gate + Sync>(
     check_height(frame.height())?;
     check_columns(frame, aggs)?;
     let groups = key_groups(rt, key, pool, gate)?;
-    let columns = answer_columns(alloc, frame, key, aggs, &groups)?;
+    let columns = answer_columns(alloc, frame, key, aggs, groups)?;
     DataFrame::new(columns)
 }
 
@@ -114,29 +114,51 @@ fn check_columns(frame: &DataFrame, aggs: &[Agg]) -> PolarsResult<()>
     Ok(())
 }
 
-// The columns of the answer.
+// The columns of the answer. The first rows are moved out of the groups, so the keys come last.
 fn answer_columns(
     alloc: Global,
     frame: &DataFrame,
     key: &Series,
+    aggs: &[Agg],
+    groups: GroupsType,
+) -> PolarsResult<Vec<Series>>
+    requires frame { IsFrame frame.now }
+    requires short { HasRowNumbers (frame_height frame.now) }
+    requires found { missing_fault frame.now (aggs_of aggs.now) ≡ None }
+    requires firsts { All (λ row. row < length (value_of key.now).slots)
+        (firsts_in (groups_of groups)) }
+    requires rows { All (AreMembers (frame_height frame.now)) (lists_in (groups_of groups)) }
+    requires few { HasRowNumbers (length (groups_of groups).pairs) }
+    ensures ok { IfOk result (λ columns. contents_of columns.items
+        ≡ answer_parts frame.now (value_of key.now ∷ []) (aggs_of aggs.now)
+        (firsts_in (groups_of groups)) (lists_in (groups_of groups))) }
+    ensures fits { OnOk result (unfit_fault frame.now (aggs_of aggs.now) ≡ None) }
+    ensures err { IfErr result (λ e. Explains e (unfit_fault frame.now (aggs_of aggs.now))) }
+{
+    let mut columns = aggregates(alloc, frame, aggs, &groups)?;
+    let firsts = groups.take_group_firsts()?;
+    columns.insert(0, key.take(&firsts)?)?;
+    Ok(columns)
+}
+
+// The aggregates over the rows of each group, with room for one column more.
+fn aggregates(
+    alloc: Global,
+    frame: &DataFrame,
     aggs: &[Agg],
     groups: &GroupsType,
 ) -> PolarsResult<Vec<Series>>
     requires frame { IsFrame frame.now }
     requires short { HasRowNumbers (frame_height frame.now) }
     requires found { missing_fault frame.now (aggs_of aggs.now) ≡ None }
-    requires firsts { All (λ row. row < length (value_of key.now).slots)
-        (firsts_in (groups_of groups.now)) }
     requires rows { All (AreMembers (frame_height frame.now)) (lists_in (groups_of groups.now)) }
     requires few { HasRowNumbers (length (groups_of groups.now).pairs) }
     ensures ok { IfOk result (λ columns. contents_of columns.items
-        ≡ answer_parts frame.now (value_of key.now ∷ []) (aggs_of aggs.now)
-        (firsts_in (groups_of groups.now)) (lists_in (groups_of groups.now))) }
+        ≡ aggregates_over frame.now (aggs_of aggs.now) (lists_in (groups_of groups.now))) }
     ensures fits { OnOk result (unfit_fault frame.now (aggs_of aggs.now) ≡ None) }
     ensures err { IfErr result (λ e. Explains e (unfit_fault frame.now (aggs_of aggs.now))) }
 {
-    let mut columns = Vec::with_capacity(alloc, 1)?;
-    columns.push(key.take(groups.first())?)?;
+    let mut columns = Vec::with_capacity(alloc, aggs.len() + 1)?;
     for agg in aggs {
         columns.push(found_aggregate(alloc, frame, agg, groups)?)?;
     }

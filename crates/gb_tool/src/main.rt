@@ -2,16 +2,16 @@
 //! call, and carries the theorem of what the program does.
 #![tactic(auto)]
 
+#[cfg(test)]
+mod flat_tests;
 mod folds;
 #[cfg(test)]
 mod gate_tests;
 mod grouping;
-mod input;
-mod output;
 mod report;
-mod request;
 mod run;
 mod status;
+mod streams;
 mod table;
 #[cfg(test)]
 mod tests;

@@ -6,10 +6,10 @@ ghost use Rattle.gb_tool.specs.Request.{HasOneKey, group_by, request_of};
 ghost use Rattle.gb_tool.specs.Run.{IsRefusedReport};
 
 use crate::grouping::group_frame;
-use crate::request::{Agg, Request, ToolOptions};
 use crate::status::Status;
 use crate::table::table_of;
 use crate::text;
+use crate::words::{Agg, Request, ToolOptions};
 use gb_cols::device::Gate;
 use gb_cols::pool::Pool;
 use gb_cols::small_str::PlSmallStr;

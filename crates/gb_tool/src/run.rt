@@ -16,10 +16,9 @@ ghost use Rattle.gb_tool.specs.Status.{IsTold, fault_value};
 ghost use Rattle.gb_tool.specs.declared.status.TableFault.{TableFault};
 ghost use Rattle.gb_tool.specs.declared.status.Status.TheVariants as status;
 
-use crate::input::read_all;
-use crate::output::write_text;
 use crate::report::report;
 use crate::status::Status;
+use crate::streams::{read_all, write_text};
 use crate::words::request_of;
 use gb_cols::device::{Gate, Sink, Source};
 use std::alloc::Global;

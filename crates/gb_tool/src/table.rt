@@ -3,7 +3,6 @@
 
 mod column;
 mod header;
-mod header_field;
 mod plain;
 #[cfg(test)]
 mod tests;

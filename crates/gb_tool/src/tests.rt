@@ -328,7 +328,7 @@ const BAD_TABLES: [BadTable; 12] = [
         fault: TableFault::SameName(2),
     },
     BadTable {
-        input: b"a,b:date\n",
+        input: b"a,b:cat\n",
         fault: TableFault::BadCell(0, 2),
     },
     BadTable {

@@ -11,7 +11,7 @@ ghost use Rattle.gb_series.specs.Series.{value_of};
 ghost use Rattle.gb_tool.specs.Text.{EndsRow, TakesField, TakesRows, contents_of};
 
 use crate::table::only_memory;
-use crate::type_word::word_of;
+use crate::type_word::put_word;
 use csv::{Writer, WriterBuilder};
 use gb_cols::error::{PolarsError, PolarsResult};
 use gb_cols::series_trait::SeriesTrait;
@@ -48,11 +48,11 @@ fn put_head(
     ensures { let field = header_field (content (value_of column.now)) in
         OnOk result (TakesField writer.old writer.new field) }
 {
-    let word = word_of(only_memory(column.dtype())?);
+    let dtype = only_memory(column.dtype())?;
     field.clear();
     field.extend_from_slice(column.name().as_str().as_bytes())?;
     field.push(b':')?;
-    field.extend_from_slice(word.as_bytes())?;
+    put_word(dtype, field)?;
     put_field(writer, field.as_slice())
 }
 

@@ -1,18 +1,80 @@
-//! The words of the types whose cells are read, in a table's header.
+//! The words of types in a table's header.
 
-ghost use Rattle.std.specs.Prelude.{◌≡◌, option_map};
-ghost use Rattle.gb_defs.specs.TypeWord.{type_word};
-ghost use Rattle.gb_cols.specs.DataType.{type_of};
-ghost use Rattle.gb_tool.specs.Head.{read_type};
+ghost use Rattle.std.specs.Prelude.{◌≡◌, ◌++◌, codes, decimal, option_map, IfSome, OnOk};
+ghost use Rattle.gb_defs.specs.TypeWord.{scale_of, type_word, unit_word as word_of_unit};
+ghost use Rattle.gb_cols.specs.DataType.{HasColumn, type_of, unit_of};
+ghost use Rattle.gb_tool.specs.Head.{decimal_scales, decimal_type_of, read_type, scale_among};
 
-use gb_cols::data_type::DataType;
+use gb_cols::data_type::{DataType, TimeUnit};
+use itoa::Buffer;
+use std::alloc::AllocError;
+
+// The scale of the decimals that a word names.
+fn decimal_scale(word: &str) -> Option<usize>
+    ensures { result ≡ scale_among decimal_scales word.now }
+{
+    match word {
+        "dec0" => Some(0),
+        "dec1" => Some(1),
+        "dec2" => Some(2),
+        "dec3" => Some(3),
+        "dec4" => Some(4),
+        "dec5" => Some(5),
+        "dec6" => Some(6),
+        "dec7" => Some(7),
+        "dec8" => Some(8),
+        "dec9" => Some(9),
+        "dec10" => Some(10),
+        "dec11" => Some(11),
+        "dec12" => Some(12),
+        "dec13" => Some(13),
+        "dec14" => Some(14),
+        "dec15" => Some(15),
+        "dec16" => Some(16),
+        "dec17" => Some(17),
+        "dec18" => Some(18),
+        "dec19" => Some(19),
+        "dec20" => Some(20),
+        "dec21" => Some(21),
+        "dec22" => Some(22),
+        "dec23" => Some(23),
+        "dec24" => Some(24),
+        "dec25" => Some(25),
+        "dec26" => Some(26),
+        "dec27" => Some(27),
+        "dec28" => Some(28),
+        "dec29" => Some(29),
+        "dec30" => Some(30),
+        "dec31" => Some(31),
+        "dec32" => Some(32),
+        "dec33" => Some(33),
+        "dec34" => Some(34),
+        "dec35" => Some(35),
+        "dec36" => Some(36),
+        "dec37" => Some(37),
+        "dec38" => Some(38),
+        _ => None,
+    }
+}
+
+// The decimal type that a word names.
+fn decimal_type(word: &str) -> Option<DataType>
+    ensures value { option_map type_of result ≡ decimal_type_of word.now }
+    ensures column { IfSome result HasColumn }
+{
+    let scale = decimal_scale(word)?;
+    Some(DataType::Decimal(None, Some(scale)))
+}
 
 /// The type that a word names, None where it names none whose cells are read.
 #[tactic(auto, unfolding(gb_defs::specs::TypeWord::type_words))]
 pub fn dtype_of(word: &str) -> Option<DataType>
-    ensures { option_map type_of result ≡ read_type word.now }
+    ensures value { option_map type_of result ≡ read_type word.now }
+    ensures column { IfSome result HasColumn }
 {
     match word {
+        "null" => None,
+        "bool" => Some(DataType::Boolean),
         "u8" => Some(DataType::UInt8),
         "u16" => Some(DataType::UInt16),
         "u32" => Some(DataType::UInt32),
@@ -22,25 +84,80 @@ pub fn dtype_of(word: &str) -> Option<DataType>
         "i32" => Some(DataType::Int32),
         "i64" => Some(DataType::Int64),
         "i128" => Some(DataType::Int128),
+        "date" => Some(DataType::Date),
+        "time" => Some(DataType::Time),
+        "datetime_ns" => Some(DataType::Datetime(TimeUnit::Nanoseconds)),
+        "datetime_us" => Some(DataType::Datetime(TimeUnit::Microseconds)),
+        "datetime_ms" => Some(DataType::Datetime(TimeUnit::Milliseconds)),
+        "duration_ns" => Some(DataType::Duration(TimeUnit::Nanoseconds)),
+        "duration_us" => Some(DataType::Duration(TimeUnit::Microseconds)),
+        "duration_ms" => Some(DataType::Duration(TimeUnit::Milliseconds)),
         "str" => Some(DataType::String),
-        _ => None,
+        "bin" => Some(DataType::Binary),
+        "cat" => None,
+        "lexcat" => None,
+        _ => decimal_type(word),
     }
 }
 
-/// The word of a type.
-pub fn word_of(dtype: DataType) -> &'static str
-    ensures { result.now ≡ type_word (type_of dtype) }
+// A word behind what is there.
+fn put(to: &mut Vec<u8>, word: &str) -> Result<(), AllocError>
+    ensures { OnOk result (to.new.items ≡ to.old.items ++ word.now) }
+{
+    to.extend_from_slice(word.as_bytes())?;
+    Ok(())
+}
+
+// The word of decimals behind what is there; without a scale they have no digits behind the point.
+fn put_decimal(to: &mut Vec<u8>, scale: Option<usize>) -> Result<(), AllocError>
+    ensures { let word = codes "dec" ++ decimal (scale_of scale) in
+        OnOk result (to.new.items ≡ to.old.items ++ word) }
+{
+    put(to, "dec")?;
+    let mut digits = Buffer::new();
+    put(to, digits.format(scale.unwrap_or(0)))
+}
+
+/// The word of a type, behind what is there.
+pub fn put_word(dtype: DataType, to: &mut Vec<u8>) -> Result<(), AllocError>
+    ensures { OnOk result (to.new.items ≡ to.old.items ++ type_word (type_of dtype)) }
 {
     match dtype {
-        DataType::UInt8 => "u8",
-        DataType::UInt16 => "u16",
-        DataType::UInt32 => "u32",
-        DataType::UInt64 => "u64",
-        DataType::Int8 => "i8",
-        DataType::Int16 => "i16",
-        DataType::Int32 => "i32",
-        DataType::Int64 => "i64",
-        DataType::Int128 => "i128",
-        DataType::String => "str",
+        DataType::Null => put(to, "null"),
+        DataType::Boolean => put(to, "bool"),
+        DataType::UInt8 => put(to, "u8"),
+        DataType::UInt16 => put(to, "u16"),
+        DataType::UInt32 => put(to, "u32"),
+        DataType::UInt64 => put(to, "u64"),
+        DataType::Int8 => put(to, "i8"),
+        DataType::Int16 => put(to, "i16"),
+        DataType::Int32 => put(to, "i32"),
+        DataType::Int64 => put(to, "i64"),
+        DataType::Int128 => put(to, "i128"),
+        DataType::Decimal(_, scale) => put_decimal(to, scale),
+        DataType::Date => put(to, "date"),
+        DataType::Time => put(to, "time"),
+        DataType::Datetime(unit) => {
+            put(to, "datetime_")?;
+            put(to, unit_word(unit))
+        }
+        DataType::Duration(unit) => {
+            put(to, "duration_")?;
+            put(to, unit_word(unit))
+        }
+        DataType::String => put(to, "str"),
+        DataType::Binary => put(to, "bin"),
+        DataType::BinaryOffset => put(to, "binoff"),
+    }
+}
+
+// The end of the word of a type that counts a unit.
+fn unit_word(unit: TimeUnit) -> &'static str
+    ensures { result.now ≡ word_of_unit (unit_of unit) }
+{
+    match unit {
+        TimeUnit::Nanoseconds => "ns",
+        TimeUnit::Microseconds => "us",
+        TimeUnit::Milliseconds => "ms",
     }
 }

@@ -1,4 +1,4 @@
-//! The words of a command line.
+//! The request that the words of a command line spell.
 
 pub mod given;
 pub mod numbers;
@@ -10,12 +10,49 @@ ghost use Rattle.gb_cols.specs.PlSmallStr.{IsNoMemory, name_of};
 ghost use Rattle.gb_tool.specs.Request as made;
 ghost use Rattle.gb_tool.specs.Words.{given_of, numbers_of};
 
-use crate::request::{Request, ToolOptions};
 use crate::words::given::Given;
 use crate::words::numbers::Numbers;
 use gb_cols::error::PolarsResult;
 use gb_cols::small_str::PlSmallStr;
 use std::alloc::Global;
+
+/// What is made of the slots of a column at the rows of a group.
+#[derive(Clone, Copy, Debug, PartialEq, Eq)]
+pub enum GroupByMethod {
+    /// The valid slots added, wrapping in the column's type.
+    Sum,
+    /// The number of rows, or of valid slots.
+    Count { include_nulls: bool },
+}
+
+/// A method and the column that it is asked of.
+#[derive(Drop)]
+pub struct Agg {
+    pub column: PlSmallStr,
+    pub method: GroupByMethod,
+}
+
+/// How the work is spread, and the null word. An option that the words do not give has its default.
+#[derive(Drop)]
+pub struct ToolOptions {
+    pub workers: usize,
+    pub partitions: usize,
+    pub piece: usize,
+    pub threshold: usize,
+    pub seed: u64,
+    pub null_word: PlSmallStr,
+    pub explain: bool,
+}
+
+/// What the words of a command line ask.
+#[derive(Drop)]
+pub enum Request {
+    Group {
+        by: Vec<PlSmallStr>,
+        aggs: Vec<Agg>,
+        options: ToolOptions,
+    },
+}
 
 // What options give, None where there is one that is at fault.
 fn given_from(alloc: Global, options: &[String]) -> PolarsResult<Option<Given>>

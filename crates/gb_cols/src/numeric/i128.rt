@@ -1,16 +1,15 @@
 //! Numbers of 128 bits with a sign.
 
-use super::PolarsNumericType;
+use super::{Native, PolarsNumericType};
 use crate::chunked::ChunkedArray;
 use crate::data_type::DataType;
-use crate::native::Native;
 use crate::number_cell::signed_wide;
-use crate::primitive::PrimitiveArray;
+use crate::primitive::NumberValues;
 
 /// The type of columns of `i128`.
 pub struct Int128Type;
 
-pub type Int128Chunked = ChunkedArray<PrimitiveArray<Int128Type>>;
+pub type Int128Chunked = ChunkedArray<NumberValues<Int128Type>>;
 
 impl PolarsNumericType for Int128Type {
     type Native = i128;

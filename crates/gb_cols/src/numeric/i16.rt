@@ -1,16 +1,15 @@
 //! Numbers of 16 bits with a sign.
 
-use super::PolarsNumericType;
+use super::{Native, PolarsNumericType};
 use crate::chunked::ChunkedArray;
 use crate::data_type::DataType;
-use crate::native::Native;
 use crate::number_cell::signed_number;
-use crate::primitive::PrimitiveArray;
+use crate::primitive::NumberValues;
 
 /// The type of columns of `i16`.
 pub struct Int16Type;
 
-pub type Int16Chunked = ChunkedArray<PrimitiveArray<Int16Type>>;
+pub type Int16Chunked = ChunkedArray<NumberValues<Int16Type>>;
 
 impl PolarsNumericType for Int16Type {
     type Native = i16;

@@ -1,16 +1,15 @@
 //! Numbers of 32 bits with a sign.
 
-use super::PolarsNumericType;
+use super::{Native, PolarsNumericType};
 use crate::chunked::ChunkedArray;
 use crate::data_type::DataType;
-use crate::native::Native;
 use crate::number_cell::signed_number;
-use crate::primitive::PrimitiveArray;
+use crate::primitive::NumberValues;
 
 /// The type of columns of `i32`.
 pub struct Int32Type;
 
-pub type Int32Chunked = ChunkedArray<PrimitiveArray<Int32Type>>;
+pub type Int32Chunked = ChunkedArray<NumberValues<Int32Type>>;
 
 impl PolarsNumericType for Int32Type {
     type Native = i32;

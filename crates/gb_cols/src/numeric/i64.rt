@@ -1,16 +1,15 @@
 //! Numbers of 64 bits with a sign.
 
-use super::PolarsNumericType;
+use super::{Native, PolarsNumericType};
 use crate::chunked::ChunkedArray;
 use crate::data_type::DataType;
-use crate::native::Native;
 use crate::number_cell::signed_number;
-use crate::primitive::PrimitiveArray;
+use crate::primitive::NumberValues;
 
 /// The type of columns of `i64`.
 pub struct Int64Type;
 
-pub type Int64Chunked = ChunkedArray<PrimitiveArray<Int64Type>>;
+pub type Int64Chunked = ChunkedArray<NumberValues<Int64Type>>;
 
 impl PolarsNumericType for Int64Type {
     type Native = i64;

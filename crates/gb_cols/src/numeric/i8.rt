@@ -1,16 +1,15 @@
 //! Numbers of 8 bits with a sign.
 
-use super::PolarsNumericType;
+use super::{Native, PolarsNumericType};
 use crate::chunked::ChunkedArray;
 use crate::data_type::DataType;
-use crate::native::Native;
 use crate::number_cell::signed_number;
-use crate::primitive::PrimitiveArray;
+use crate::primitive::NumberValues;
 
 /// The type of columns of `i8`.
 pub struct Int8Type;
 
-pub type Int8Chunked = ChunkedArray<PrimitiveArray<Int8Type>>;
+pub type Int8Chunked = ChunkedArray<NumberValues<Int8Type>>;
 
 impl PolarsNumericType for Int8Type {
     type Native = i8;

@@ -1,6 +1,6 @@
 //! Numbers of 128 bits with no sign.
 
-use crate::native::Native;
+use super::Native;
 use crate::number_cell::unsigned_wide;
 
 impl Native for u128 {

@@ -1,16 +1,15 @@
 //! Numbers of 16 bits with no sign.
 
-use super::PolarsNumericType;
+use super::{Native, PolarsNumericType};
 use crate::chunked::ChunkedArray;
 use crate::data_type::DataType;
-use crate::native::Native;
 use crate::number_cell::unsigned_number;
-use crate::primitive::PrimitiveArray;
+use crate::primitive::NumberValues;
 
 /// The type of columns of `u16`.
 pub struct UInt16Type;
 
-pub type UInt16Chunked = ChunkedArray<PrimitiveArray<UInt16Type>>;
+pub type UInt16Chunked = ChunkedArray<NumberValues<UInt16Type>>;
 
 impl PolarsNumericType for UInt16Type {
     type Native = u16;

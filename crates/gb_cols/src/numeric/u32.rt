@@ -1,16 +1,15 @@
 //! Numbers of 32 bits with no sign.
 
-use super::PolarsNumericType;
+use super::{Native, PolarsNumericType};
 use crate::chunked::ChunkedArray;
 use crate::data_type::DataType;
-use crate::native::Native;
 use crate::number_cell::unsigned_number;
-use crate::primitive::PrimitiveArray;
+use crate::primitive::NumberValues;
 
 /// The type of columns of `u32`.
 pub struct UInt32Type;
 
-pub type UInt32Chunked = ChunkedArray<PrimitiveArray<UInt32Type>>;
+pub type UInt32Chunked = ChunkedArray<NumberValues<UInt32Type>>;
 
 impl PolarsNumericType for UInt32Type {
     type Native = u32;

@@ -1,16 +1,15 @@
 //! Numbers of 64 bits with no sign.
 
-use super::PolarsNumericType;
+use super::{Native, PolarsNumericType};
 use crate::chunked::ChunkedArray;
 use crate::data_type::DataType;
-use crate::native::Native;
 use crate::number_cell::unsigned_number;
-use crate::primitive::PrimitiveArray;
+use crate::primitive::NumberValues;
 
 /// The type of columns of `u64`.
 pub struct UInt64Type;
 
-pub type UInt64Chunked = ChunkedArray<PrimitiveArray<UInt64Type>>;
+pub type UInt64Chunked = ChunkedArray<NumberValues<UInt64Type>>;
 
 impl PolarsNumericType for UInt64Type {
     type Native = u64;

@@ -1,16 +1,15 @@
 //! Numbers of 8 bits with no sign.
 
-use super::PolarsNumericType;
+use super::{Native, PolarsNumericType};
 use crate::chunked::ChunkedArray;
 use crate::data_type::DataType;
-use crate::native::Native;
 use crate::number_cell::unsigned_number;
-use crate::primitive::PrimitiveArray;
+use crate::primitive::NumberValues;
 
 /// The type of columns of `u8`.
 pub struct UInt8Type;
 
-pub type UInt8Chunked = ChunkedArray<PrimitiveArray<UInt8Type>>;
+pub type UInt8Chunked = ChunkedArray<NumberValues<UInt8Type>>;
 
 impl PolarsNumericType for UInt8Type {
     type Native = u8;

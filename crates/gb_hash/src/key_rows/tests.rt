@@ -1,13 +1,11 @@
 ghost use Rattle.std.specs.Prelude.{◌≡◌, ◌<◌};
 
 use crate::byte_rows::ByteRows;
-use crate::key_rows::KeyRows;
-use crate::list_rows::ListRows;
+use crate::key_rows::{KeyRows, Steps};
+use crate::list_rows::{ListRows, TextRows};
 use crate::mixer::SeedMixer;
 use crate::num_rows::NumRows;
 use crate::slice_rows::SliceRows;
-use crate::steps::Steps;
-use crate::text_rows::TextRows;
 use gb_cols::chunked::{Int64Chunked, StringChunked};
 use gb_cols::error::PolarsResult;
 use gb_cols::small_str::PlSmallStr;

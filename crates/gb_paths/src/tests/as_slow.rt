@@ -8,12 +8,20 @@ use gb_cols::memory::FreeGate;
 use gb_cols::nullable_idx::IdxSize;
 use gb_cols::pool::Pool;
 use gb_defs::slow;
-use gb_groups::groups_type::GroupsType;
+use gb_groups::groups_type::{GroupsIndicator, GroupsType};
 use gb_hash::mixer::{Mixer, SeedMixer};
 use gb_hash::slice_rows::SliceRows;
 use std::alloc::{AllocError, Global};
 use std::test::Fail;
 use std::thread::Threads;
+
+// Whether the group has the form of a row list, and this one.
+fn has_list(group: &GroupsIndicator<'_>, wanted: &[usize]) -> bool {
+    match group {
+        GroupsIndicator::Idx((_, rows)) => same_rows(rows, wanted),
+        GroupsIndicator::Slice(_) => false,
+    }
+}
 
 fn same_rows(rows: &[IdxSize], wanted: &[usize]) -> bool {
     if rows.len() != wanted.len() {
@@ -33,12 +41,12 @@ fn are_as_slow(alloc: Global, groups: &GroupsType, keys: &[u64]) -> Result<bool,
     if groups.len() != firsts.len() {
         return Ok(false);
     }
-    for ((first, rows), wanted) in groups.unwrap_idx().iter().zip(firsts.iter()) {
-        if first as usize != *wanted || *wanted >= keys.len() {
+    for (group, wanted) in groups.iter().zip(firsts.iter()) {
+        if group.first() as usize != *wanted || *wanted >= keys.len() {
             return Ok(false);
         }
         let class = slow::class_of(alloc, keys, *wanted)?;
-        if !same_rows(rows.as_slice(), class.as_slice()) {
+        if !has_list(&group, class.as_slice()) {
             return Ok(false);
         }
     }

@@ -1,21 +1,93 @@
-//! Folds that make a number, or null, of the rows of a group.
+//! Folds that make a number, or null, of the rows of a group, in each form that a group has.
 
-ghost use Rattle.std.specs.Prelude.{◌≡◌, ℕ, ◌<◌, List, length, All, MatchOption, ◌+ℤ◌, false};
-ghost use Rattle.gb_defs.specs.ColumnType.{Flat};
+ghost use Rattle.std.specs.Prelude.{◌≡◌, ℕ, ◌<◌, List, length, slice_index, All, MatchOption, ◌+ℤ◌, false, pos};
+ghost use Rattle.std.specs.List.{range_with_len};
+ghost use Rattle.gb_defs.specs.ColumnType.{Boolean, Flat};
 ghost use Rattle.gb_defs.specs.Slot.{Slot};
 ghost use Rattle.gb_defs.specs.Fold.{wrap, total, valid, picked, Count, Sum, fold_of};
 ghost use Rattle.gb_defs.specs.Groups.{AreMembers, HasRowNumbers};
-ghost use Rattle.gb_cols.specs.Array.{number_slot_of};
+ghost use Rattle.gb_cols.specs.Array.{flag_number, native_slot};
 ghost use Rattle.gb_series.specs.Series.{value_of};
 ghost use Rattle.gb_tool.specs.Folds.{fold_in, rows_fold};
 
+use gb_cols::boolean::BooleanChunked;
 use gb_cols::chunked::ChunkedArray;
-use gb_cols::native::Native;
-use gb_cols::numeric::{PolarsNumericType, UInt32Type};
-use gb_cols::primitive::PrimitiveArray;
+use gb_cols::numeric::{Native, PolarsNumericType, UInt32Type};
+use gb_cols::primitive::NumberValues;
 use gb_cols::series_trait::SeriesTrait;
 use gb_groups::groups_idx::IdxSize;
 use gb_series::series::Series;
+
+/// The rows of a group, by place.
+pub trait GroupRows {
+    // The rows.
+    ghost rows: { Self → List ℕ };
+
+    fn count(&self) -> usize
+        ensures { result ≡ length (rows self.now) };
+
+    fn row_at(&self, place: usize) -> usize
+        requires { place < length (rows self.now) }
+        ensures { result ≡ slice_index (rows self.now) place };
+}
+
+/// Rows that are listed.
+#[derive(Drop)]
+pub struct RowList<'a> {
+    rows: &'a [IdxSize],
+}
+
+impl<'a> RowList<'a> {
+    pub fn new(rows: &'a [IdxSize]) -> RowList<'a>
+        ensures { result.rows.now ≡ rows.now }
+    {
+        RowList { rows }
+    }
+}
+
+impl<'a> GroupRows for RowList<'a> {
+    ghost rows = { λ list. list.rows.now };
+
+    #[inline]
+    fn count(&self) -> usize {
+        self.rows.len()
+    }
+
+    #[inline]
+    fn row_at(&self, place: usize) -> usize {
+        self.rows[place] as usize
+    }
+}
+
+/// Rows that follow each other: so many, from the start on.
+#[derive(Drop)]
+pub struct RowRun {
+    start: IdxSize,
+    count: IdxSize,
+}
+
+impl RowRun {
+    pub fn new(start: IdxSize, count: IdxSize) -> RowRun
+        ensures start { result.start ≡ start }
+        ensures count { result.count ≡ count }
+    {
+        RowRun { start, count }
+    }
+}
+
+impl GroupRows for RowRun {
+    ghost rows = { λ run. range_with_len run.start run.count };
+
+    #[inline]
+    fn count(&self) -> usize {
+        self.count as usize
+    }
+
+    #[inline]
+    fn row_at(&self, place: usize) -> usize {
+        self.start as usize + place
+    }
+}
 
 /// What makes a number, or null, of some rows.
 pub trait NumberFold {
@@ -27,19 +99,19 @@ pub trait NumberFold {
     // The rows are below it.
     ghost height: { Self → ℕ };
 
-    fn over(&self, rows: &[IdxSize]) -> Option<<Self::Out as PolarsNumericType>::Native>
-        requires { AreMembers (height self.now) rows.now }
-        ensures { number_slot_of Self.Out.Native.number result ≡ fold self.now rows.now };
+    fn over<R: GroupRows>(&self, rows: &R) -> Option<<Self::Out as PolarsNumericType>::Native>
+        requires { AreMembers (height self.now) (R.rows rows.now) }
+        ensures { native_slot Self.Out.Native.number result ≡ fold self.now (R.rows rows.now) };
 }
 
 /// The sum of a column of numbers, wrapped in its type.
 #[derive(Drop)]
 pub struct SumOf<'a, T: PolarsNumericType> {
-    column: &'a ChunkedArray<PrimitiveArray<T>>,
+    column: &'a ChunkedArray<NumberValues<T>>,
 }
 
 impl<'a, T: PolarsNumericType> SumOf<'a, T> {
-    pub fn new(column: &'a ChunkedArray<PrimitiveArray<T>>) -> SumOf<'a, T>
+    pub fn new(column: &'a ChunkedArray<NumberValues<T>>) -> SumOf<'a, T>
         ensures { result.column.now ≡ column.now }
     {
         SumOf { column }
@@ -54,8 +126,35 @@ impl<'a, T: PolarsNumericType> NumberFold for SumOf<'a, T> {
 
     ghost height = { λ f. length f.column.now.slots };
 
-    fn over(&self, rows: &[IdxSize]) -> Option<T::Native> {
+    fn over<R: GroupRows>(&self, rows: &R) -> Option<T::Native> {
         Some(sum_at(self.column, rows))
+    }
+}
+
+/// How many flags of a column are true, wrapped in 32 bits.
+#[derive(Drop)]
+pub struct FlagSum<'a> {
+    column: &'a BooleanChunked,
+}
+
+impl<'a> FlagSum<'a> {
+    pub fn new(column: &'a BooleanChunked) -> FlagSum<'a>
+        ensures { result.column.now ≡ column.now }
+    {
+        FlagSum { column }
+    }
+}
+
+#[tactic(auto, unfolding(gb_defs::specs::Fold::fold_picked))]
+impl<'a> NumberFold for FlagSum<'a> {
+    type Out = UInt32Type;
+
+    ghost fold = { λ f. fold_of Sum (Flat Boolean) f.column.now.slots };
+
+    ghost height = { λ f. length f.column.now.slots };
+
+    fn over<R: GroupRows>(&self, rows: &R) -> Option<u32> {
+        Some(trues_at(self.column, rows))
     }
 }
 
@@ -71,8 +170,8 @@ impl NumberFold for RowCount {
     // Rows are numbers of 32 bits.
     ghost height = { λ _. 4294967295 };
 
-    fn over(&self, rows: &[IdxSize]) -> Option<u32> {
-        Some(rows.len() as u32)
+    fn over<R: GroupRows>(&self, rows: &R) -> Option<u32> {
+        Some(rows.count() as u32)
     }
 }
 
@@ -100,8 +199,8 @@ impl<'a> NumberFold for ValidCount<'a> {
 
     ghost height = { λ f. length (value_of f.column.now).slots };
 
-    fn over(&self, rows: &[IdxSize]) -> Option<u32> {
-        if rows.is_empty() {
+    fn over<R: GroupRows>(&self, rows: &R) -> Option<u32> {
+        if rows.count() == 0 {
             None
         } else {
             Some(valid_at(self.column, rows))
@@ -110,17 +209,17 @@ impl<'a> NumberFold for ValidCount<'a> {
 }
 
 // The sum at these rows.
-fn sum_at<T: PolarsNumericType>(
-    column: &ChunkedArray<PrimitiveArray<T>>,
-    rows: &[IdxSize],
+fn sum_at<T: PolarsNumericType, R: GroupRows>(
+    column: &ChunkedArray<NumberValues<T>>,
+    rows: &R,
 ) -> T::Native
-    requires { All (λ row. row < length column.now.slots) rows.now }
-    ensures { let slots = valid (picked column.now.slots rows.now) in
+    requires { All (λ row. row < length column.now.slots) (R.rows rows.now) }
+    ensures { let slots = valid (picked column.now.slots (R.rows rows.now)) in
         T.Native.number result ≡ wrap (Flat T.Native.flat) (total slots) }
 {
     let mut sum = T::Native::zero();
-    for row in rows {
-        sum = with_slot(sum, column.get(*row as usize));
+    for place in 0..rows.count() {
+        sum = with_slot(sum, column.get(rows.row_at(place)));
     }
     sum
 }
@@ -137,15 +236,40 @@ fn with_slot<N: Native>(sum: N, slot: Option<N>) -> N
     }
 }
 
+// How many flags at these rows are true.
+fn trues_at<R: GroupRows>(column: &BooleanChunked, rows: &R) -> u32
+    requires { All (λ row. row < length column.now.slots) (R.rows rows.now) }
+    ensures { let slots = valid (picked column.now.slots (R.rows rows.now)) in
+        pos result ≡ wrap (Flat Boolean) (total slots) }
+{
+    let mut sum = 0;
+    for place in 0..rows.count() {
+        sum = with_flag(sum, column.get(rows.row_at(place)));
+    }
+    sum
+}
+
+// The number with one flag more.
+#[inline]
+fn with_flag(sum: u32, flag: Option<bool>) -> u32
+    ensures { MatchOption flag (result ≡ sum)
+        (λ f. pos result ≡ wrap (Flat Boolean) (pos sum +ℤ flag_number f)) }
+{
+    match flag {
+        Some(flag) => sum.add_wrapped(u32::from(flag)),
+        None => sum,
+    }
+}
+
 // The number of valid slots at these rows.
-fn valid_at(column: &Series, rows: &[IdxSize]) -> u32
-    requires rows { AreMembers (length (value_of column.now).slots) rows.now }
+fn valid_at<R: GroupRows>(column: &Series, rows: &R) -> u32
+    requires rows { AreMembers (length (value_of column.now).slots) (R.rows rows.now) }
     requires short { HasRowNumbers (length (value_of column.now).slots) }
-    ensures { result ≡ length (valid (picked (value_of column.now).slots rows.now)) }
+    ensures { result ≡ length (valid (picked (value_of column.now).slots (R.rows rows.now))) }
 {
     let mut count = 0;
-    for row in rows {
-        if column.is_valid(*row as usize) {
+    for place in 0..rows.count() {
+        if column.is_valid(rows.row_at(place)) {
             count += 1;
         }
     }

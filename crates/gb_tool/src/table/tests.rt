@@ -52,8 +52,8 @@ fn tables_and_faults(rt: HostRuntime) -> Result<(), Fail> {
         (b"a,a:i64\n", "", Err(TableFault::SameName(2))),
         (b"k,\xFF\n", "", Err(TableFault::BadCell(0, 2))),
         (b"\xFF,k,k\n", "", Err(TableFault::BadCell(0, 1))),
-        (b"k,v:bool\n", "", Err(TableFault::BadCell(0, 2))),
-        (b"k,v:dec38\n", "", Err(TableFault::BadCell(0, 2))),
+        (b"k,v:cat\n", "", Err(TableFault::BadCell(0, 2))),
+        (b"k,v:null\n", "", Err(TableFault::BadCell(0, 2))),
         (b"k,k,v:i32\n", "", Err(TableFault::SameName(2))),
         (b"\r\n\"a\",b,a\n", "", Err(TableFault::SameName(3))),
         // Records below it.

@@ -6,8 +6,8 @@ ghost use Rattle.gb_cols.specs.PlSmallStr.{IsNoMemory};
 ghost use Rattle.gb_tool.specs.Request as made;
 ghost use Rattle.gb_tool.specs.Words.{given_of};
 
-use crate::request::{Agg, GroupByMethod};
 use crate::words::numbers::Numbers;
+use crate::words::{Agg, GroupByMethod};
 use gb_cols::error::PolarsResult;
 use gb_cols::small_str::PlSmallStr;
 use std::alloc::Global;

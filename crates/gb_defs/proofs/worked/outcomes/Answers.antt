@@ -29,6 +29,14 @@ pub returns-clause-sum_wraps : goal.returns-clause-sum_wraps
 unfolding outcome grouped_by table records_from next_record strip_bom head_of type_words cell_slot is_utf8 fault answer firsts is_first class fold_picked frame_text int_wrap escaped fields_text is_blank chars encode digits
 returns-clause-sum_wraps c = refl
 
+pub returns-clause-flag_keys : goal.returns-clause-flag_keys
+unfolding outcome grouped_by table records_from next_record strip_bom head_of type_words cell_slot is_utf8 fault answer firsts is_first class fold_picked frame_text int_wrap escaped fields_text is_blank chars encode digits
+returns-clause-flag_keys c = refl
+
+pub returns-clause-hundredths : goal.returns-clause-hundredths
+unfolding outcome grouped_by table records_from next_record strip_bom head_of type_words cell_slot is_utf8 fault answer firsts is_first class fold_picked frame_text int_wrap escaped fields_text is_blank chars encode digits
+returns-clause-hundredths c = refl
+
 pub returns-clause-null_is_a_group : goal.returns-clause-null_is_a_group
 unfolding outcome grouped_by table records_from next_record strip_bom head_of type_words cell_slot is_utf8 fault answer firsts is_first class fold_picked frame_text int_wrap escaped fields_text is_blank chars encode digits
 returns-clause-null_is_a_group c = refl

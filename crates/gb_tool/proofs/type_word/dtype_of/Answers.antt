@@ -1,8 +1,13 @@
-use Rattle.gb_tool.proofs.HeadLemmas.{apart, no_read_type}
+use Rattle.std.proofs.Common.{◌∙◌, sym}
+use Rattle.gb_defs.specs.TypeWord.{type_words}
+use Rattle.gb_tool.proofs.HeadLemmas.{apart, decimals_read}
 use Rattle.gb_tool.proofs.type_word.dtype_of.Goals as goal
 
-pub returns-in_default : goal.returns-in_default
-returns-in_default c = no_read_type c.args.word.now (rw (
+pub returns-in_default-clause-value : goal.returns-in_default-clause-value
+unfolding type_words
+returns-in_default-clause-value c = rw (
+  apart _ _ c.in_default.not-null,
+  apart _ _ c.in_default.not-bool,
   apart _ _ c.in_default.not-u8,
   apart _ _ c.in_default.not-u16,
   apart _ _ c.in_default.not-u32,
@@ -12,5 +17,16 @@ returns-in_default c = no_read_type c.args.word.now (rw (
   apart _ _ c.in_default.not-i32,
   apart _ _ c.in_default.not-i64,
   apart _ _ c.in_default.not-i128,
+  apart _ _ c.in_default.not-date,
+  apart _ _ c.in_default.not-time,
+  apart _ _ c.in_default.not-datetime_ns,
+  apart _ _ c.in_default.not-datetime_us,
+  apart _ _ c.in_default.not-datetime_ms,
+  apart _ _ c.in_default.not-duration_ns,
+  apart _ _ c.in_default.not-duration_us,
+  apart _ _ c.in_default.not-duration_ms,
   apart _ _ c.in_default.not-str,
-))
+  apart _ _ c.in_default.not-bin,
+  apart _ _ c.in_default.not-cat,
+  apart _ _ c.in_default.not-lexcat,
+) (c.decimal_type.ensures.value ∙ sym (decimals_read c.args.word.now))

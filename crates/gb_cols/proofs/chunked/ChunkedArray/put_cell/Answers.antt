@@ -8,5 +8,5 @@ use Rattle.gb_cols.proofs.chunked.ChunkedArray.put_cell.Goals as goal
 pub returns-clause-ok : goal.returns-clause-ok
 returns-clause-ok g c =
     let taken = rw c.if-not-branch.false at c.in_ok-push_cell.ensures.ok in
-    view_taken g.A.Array.slots _ _ (flag_of c.self.inside.sorted) _ _ _ _ taken
+    view_taken _ _ (flag_of c.self.inside.sorted) c.self.inside.earlier.items _ _ _ taken
     ∙ ap (λ v. option_map (pushed v) (value_of_field v.dtype c.args.cell.now)) c.self.view_is

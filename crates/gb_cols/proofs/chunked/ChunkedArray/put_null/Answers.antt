@@ -7,4 +7,4 @@ use Rattle.gb_cols.proofs.chunked.ChunkedArray.put_null.Goals as goal
 
 pub returns-clause-ok : goal.returns-clause-ok
 returns-clause-ok g c =
-    view_pushed g.A.Array.slots _ _ (flag_of c.self.inside.sorted) _ _ _ Nil c.in_ok-push_null.ensures.ok ∙ ap (λ v. pushed v Nil) c.self.view_is
+    view_pushed _ _ (flag_of c.self.inside.sorted) _ _ _ Nil c.in_ok-push_null.ensures.ok ∙ ap (λ v. pushed v Nil) c.self.view_is

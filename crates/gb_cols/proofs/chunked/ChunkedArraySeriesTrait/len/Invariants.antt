@@ -6,5 +6,5 @@ use Rattle.gb_cols.proofs.chunked.ChunkedArraySeriesTrait.len.Given as goal
 
 abbrev pub invariant-loop-chunk : goal.invariant-loop-chunk
 invariant-loop-chunk g l =
-    let front = front_slots g.A.Array.slots l.chunk-items l.chunk-index in
-    record { counted : l.total ≡ before_chunk g.A.Array.slots l.chunk-items l.chunk-index; fitting : All (Fits g.A.Array.dtype) front }
+    let front = front_slots l.chunk-items l.chunk-index in
+    record { counted : l.total ≡ before_chunk l.chunk-items l.chunk-index; fitting : All (Fits g.V.Values.dtype) front }

@@ -6,28 +6,25 @@ use Rattle.gb_cols.proofs.chunked.ChunkedArraySeriesTrait.null_count.Goals as go
 
 pub overflow_add-total : goal.overflow_add-total
 overflow_add-total g c =
-    let slots = g.A.Array.slots in
     let chunks = c.deref-chunk-items.result.now in
-    let whole = ap (λ es. length (all_slots slots es c.self.inside.last)) c.deref-chunk-items.ensures.value in
-    let more = nulls_more slots chunks c.chunk-item.result c.loop-chunk.chunk-index c.loop-chunk-test.true c.chunk-item.is in
-    let few = nulls_few slots chunks c.self.inside.last (c.loop-chunk.chunk-index + 1) in
+    let whole = ap (λ es. length (all_slots es c.self.inside.last)) c.deref-chunk-items.ensures.value in
+    let more = nulls_more chunks c.chunk-item.result c.loop-chunk.chunk-index c.loop-chunk-test.true c.chunk-item.is in
+    let few = nulls_few chunks c.self.inside.last (c.loop-chunk.chunk-index + 1) in
     omega (arith, c.self.invariant.small, whole, more, few, c.null_count-total.ensures, c.loop-chunk.invariant)
 
 pub loop-chunk-preserved : goal.loop-chunk-preserved
 loop-chunk-preserved g c =
-    let more = nulls_more g.A.Array.slots c.deref-chunk-items.result.now c.chunk-item.result c.loop-chunk.chunk-index c.loop-chunk-test.true c.chunk-item.is in
+    let more = nulls_more c.deref-chunk-items.result.now c.chunk-item.result c.loop-chunk.chunk-index c.loop-chunk-test.true c.chunk-item.is in
     omega (arith, more, c.null_count-total.ensures, c.loop-chunk.invariant)
 
 pub overflow_add-result : goal.overflow_add-result
 overflow_add-result g c =
-    let slots = g.A.Array.slots in
-    let whole = ap (λ es. length (all_slots slots es c.self.inside.last)) c.deref-chunk-items.ensures.value in
-    omega (arith, c.self.invariant.small, whole, nulls_few slots c.deref-chunk-items.result.now c.self.inside.last c.loop-chunk.chunk-index, c.null_count.ensures, c.loop-chunk.invariant)
+    let whole = ap (λ es. length (all_slots es c.self.inside.last)) c.deref-chunk-items.ensures.value in
+    omega (arith, c.self.invariant.small, whole, nulls_few c.deref-chunk-items.result.now c.self.inside.last c.loop-chunk.chunk-index, c.null_count.ensures, c.loop-chunk.invariant)
 
 pub returns : goal.returns
 returns g c =
-    let slots = g.A.Array.slots in
-    let whole = ap (λ es. count_by is_nil (all_slots slots es c.self.inside.last)) c.deref-chunk-items.ensures.value in
-    let all = nulls_all slots c.deref-chunk-items.result.now c.self.inside.last c.loop-chunk.chunk-index c.loop-chunk-test.false in
+    let whole = ap (λ es. count_by is_nil (all_slots es c.self.inside.last)) c.deref-chunk-items.ensures.value in
+    let all = nulls_all c.deref-chunk-items.result.now c.self.inside.last c.loop-chunk.chunk-index c.loop-chunk-test.false in
     let seen = ap (λ v. count_by is_nil v.slots) c.self.view_is in
     omega (arith, whole, all, seen, c.null_count.ensures, c.loop-chunk.invariant)

@@ -9,14 +9,14 @@ loop-row-preserved g c =
     let rows = c.args.rows.now in
     let at = c.loop-row.row-index in
     let pick = slot_at c.args.self.now.slots in
-    c.in_ok-push_from.ensures.ok ∙ ap (λ ss. ss ++ slot_at (g.A.Array.slots c.locate-place.result.0.now) c.locate-place.result.1 ∷ []) c.loop-row.invariant
+    c.in_ok-push_from.ensures.ok ∙ ap (λ ss. ss ++ slot_at c.locate-place.result.0.now c.locate-place.result.1 ∷ []) c.loop-row.invariant
     ∙ ap (λ (s : Slot). map pick (take at rows) ++ s ∷ []) c.locate-place.ensures.slot ∙ sym (map_more pick rows at 0 c.loop-row-test.true)
 
 pub invariant_of-result : goal.invariant_of-result
 invariant_of-result g c =
     let whole = c.loop-row.invariant ∙ ap (map (slot_at c.args.self.now.slots)) (take_all c.loop-row.row-index c.args.rows.now c.loop-row-test.false) in
     let few : length c.args.rows.now < 2 ^ 63 = search rules in
-    rw (c.new.ensures.items, append-nil (g.A.Array.slots c.loop-row.taken), whole)
+    rw (c.new.ensures.items, append-nil c.loop-row.taken, whole)
     (record { flag_true = tt; small = rw (length-map c.args.rows.now (slot_at c.args.self.now.slots)) few })
 
 pub returns-clause-ok : goal.returns-clause-ok
@@ -24,4 +24,4 @@ returns-clause-ok g c =
     let whole = c.loop-row.invariant ∙ ap (map (slot_at c.args.self.now.slots)) (take_all c.loop-row.row-index c.args.rows.now c.loop-row-test.false) in
     let names = c.in_ok-try_clone.ensures.ok ∙ ap (λ v. v.name) c.self.view_is in
     let types = ap (λ v. v.dtype) c.self.view_is in
-    rw (c.new.ensures.items, names, types) (view_one g.A.Array.slots c.args.self.now.name c.args.self.now.dtype c.loop-row.taken _ whole)
+    rw (c.new.ensures.items, names, types) (view_one c.args.self.now.name c.args.self.now.dtype c.loop-row.taken _ whole)

@@ -7,5 +7,5 @@ pub returns : goal.returns
 returns g c =
     let word = c.args.null_word.now in
     let column = c.args.self.now in
-    let cell = ap (cell_text word g.A.Array.dtype) c.locate-place.ensures.slot ∙ ap (λ t. cell_text word t (slot_at column.slots c.args.row)) (sym c.locate-place.ensures.typed) in
+    let cell = ap (cell_text word g.V.Values.dtype) c.locate-place.ensures.slot ∙ ap (λ t. cell_text word t (slot_at column.slots c.args.row)) (sym c.locate-place.ensures.typed) in
     rw cell at c.write_cell.ensures

@@ -17,27 +17,28 @@ not_false true e = refl
 not_false false e = cc
 
 pub overflow_add-count : goal.overflow_add-count
-overflow_add-count c = omega (arith, c.loop-row.invariant.few, c.loop-row-test.true, few_members _ _ c.requires.rows, c.requires.short)
+overflow_add-count g c = omega (arith, c.loop-place.invariant.few, c.loop-place-test.true, few_members _ _ c.requires.rows, c.requires.short)
 
-pub loop-row-preserved : goal.loop-row-preserved
-loop-row-preserved c =
+pub loop-place-preserved : goal.loop-place-preserved
+loop-place-preserved g c =
     let slots = (value_of c.args.column.now).slots in
-    let rows = c.args.rows.now in
-    let at = c.loop-row.row-index in
+    let rows = g.R.GroupRows.rows c.args.rows.now in
+    let at = c.loop-place.place in
     let before = picked slots (take at rows) in
     let s = slot_at slots (get_or rows at 0) in
-    let more = ap (λ ss. length (valid ss)) (picked_more slots rows at c.loop-row-test.true) in
+    let read = sym (ap (λ row. not (is_nil (slot_at slots row))) c.row_at.ensures) ∙ sym c.is_valid.ensures in
+    let more = ap (λ ss. length (valid ss)) (picked_more slots rows at (omega arith)) in
     elim c.if-is_valid.branch [
       | then-is_valid w ↦
-          let value : is_nil s ≡ false = not_true (is_nil s) (sym c.is_valid.ensures ∙ w.if-is_valid.true) in
+          let value : is_nil s ≡ false = not_true (is_nil s) (read ∙ w.if-is_valid.true) in
           record {
-            counted = omega (arith, w.count-is, c.loop-row.invariant.counted, more, ap length (valid_push_value before s value), length_push (valid before) s);
-            few = omega (arith, w.count-is, c.loop-row.invariant.few);
+            counted = omega (arith, w.count-is, c.loop-place.invariant.counted, more, ap length (valid_push_value before s value), length_push (valid before) s);
+            few = omega (arith, w.count-is, c.loop-place.invariant.few);
           }
       | else-is_valid w ↦
-          let null : is_nil s ≡ true = not_false (is_nil s) (sym c.is_valid.ensures ∙ w.if-is_valid.false) in
+          let null : is_nil s ≡ true = not_false (is_nil s) (read ∙ w.if-is_valid.false) in
           record {
-            counted = omega (arith, w.count-is, c.loop-row.invariant.counted, more, ap length (valid_push_null before s null));
-            few = omega (arith, w.count-is, c.loop-row.invariant.few);
+            counted = omega (arith, w.count-is, c.loop-place.invariant.counted, more, ap length (valid_push_null before s null));
+            few = omega (arith, w.count-is, c.loop-place.invariant.few);
           }
     ]

@@ -27,7 +27,7 @@ returns-in_default-clause-err c =
     let read = rw inv.same at (sym c.in-Some.ensures.steps.1) in
     let place : c.len-in-loop-field.result + 1 ≡ suc c.loop-field.field-iterator.at = omega (arith, inv.made.count, length-map c.loop-field.columns.items value_of) in
     rw place (header_unread (fields_of c.args.header.now) c.loop-field.field-iterator.at (map value_of c.loop-field.columns.items) c.loop-field.seen.keys inv.made c.in-Some.field.now read
-    (sym c.in_default.ensures))
+    (sym c.in_default.ensures.value))
 
 pub returns-then-not-branch-clause-err : goal.returns-then-not-branch-clause-err
 returns-then-not-branch-clause-err c =
@@ -37,7 +37,7 @@ returns-then-not-branch-clause-err c =
     let known : holds c.loop-field.seen.keys c.in-Some-read_field.name.now ≡ true = held _ _ c.in_ok-insert.ensures.added c.if-not-branch.true in
     let place : c.len-in-loop-field.result + 1 ≡ suc c.loop-field.field-iterator.at = omega (arith, inv.made.count, length-map c.loop-field.columns.items value_of) in
     rw place (header_repeated (fields_of c.args.header.now) c.loop-field.field-iterator.at (map value_of c.loop-field.columns.items) c.loop-field.seen.keys inv.made c.in-Some.field.now read
-    head (sym c.in-Some-read_field.ensures) known)
+    head (sym c.in-Some-read_field.ensures.value) known)
 
 pub loop-field-preserved : goal.loop-field-preserved
 loop-field-preserved c =
@@ -45,7 +45,7 @@ loop-field-preserved c =
     let steps = c.in-Some.ensures.steps in
     let read = rw inv.same at (sym steps.1) in
     let head : Head = record { name = c.in-Some-read_field.name.now; dtype = type_of c.in-Some-read_field.dtype } in
-    let is : readable_field c.in-Some.field.now ≡ Some head = sym c.in-Some-read_field.ensures in
+    let is : readable_field c.in-Some.field.now ≡ Some head = sym c.in-Some-read_field.ensures.value in
     let fresh = unheld (holds c.loop-field.seen.keys c.in-Some-read_field.name.now) _ c.in_ok-insert.ensures.added c.if-not-branch.false in
     let update : (name : List ℕ) → holds c.insert.new.self.keys name ≡ cond (bytes_eq c.in-Some-read_field.name.now name) true (holds c.loop-field.seen.keys name)
     = λ name. c.in_ok-insert.ensures.updates.0 (record { ref_ptr = (0, 0); now = name }) in

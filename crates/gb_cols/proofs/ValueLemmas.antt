@@ -1,0 +1,24 @@
+-- Values in a row, as slots.
+use Rattle.std.proofs.Common.{◌≡◌, ℕ, zero, suc, ◌<◌, Bool, true, false, inl, inr, List, [], ◌∷◌, length, map, refl, arith, get_or}
+use Rattle.std.specs.List.{All, AllByRecursion}
+use Rattle.std.proofs.lemmas.List.Elements.{All-from_recursion}
+use Rattle.gb_defs.specs.ColumnType.{Boolean, Flat, Fits}
+use Rattle.gb_defs.specs.Slot.{Slot, slot_at}
+use Rattle.gb_cols.specs.Array.{flag_slot}
+
+-- the slot at a place is that of the value there
+pub value_at : {A : Type 0} (slot_of : A → Slot) (values : List A) (d : A) (i : ℕ) → i < length values → slot_of (get_or values i d) ≡ slot_at (map slot_of values) i
+value_at slot_of [] d i lt = absurd (omega arith)
+value_at slot_of (v ∷ values) d zero lt = refl
+value_at slot_of (v ∷ values) d (suc i) lt = value_at slot_of values d i (omega arith)
+
+flag_fits : (flag : Bool) → Fits (Flat Boolean) (flag_slot flag)
+flag_fits true = inr refl
+flag_fits false = inl refl
+
+flags_fit_each : (flags : List Bool) → AllByRecursion (Fits (Flat Boolean)) (map flag_slot flags)
+flags_fit_each [] = tt
+flags_fit_each (flag ∷ flags) = (flag_fits flag, flags_fit_each flags)
+
+pub flags_fit : (flags : List Bool) → All (Fits (Flat Boolean)) (map flag_slot flags)
+flags_fit flags = All-from_recursion (Fits (Flat Boolean)) (map flag_slot flags) (flags_fit_each flags)

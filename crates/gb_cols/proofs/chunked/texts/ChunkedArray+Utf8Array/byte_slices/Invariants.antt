@@ -1,7 +1,0 @@
-use Rattle.std.proofs.Common.{◌≡◌, map}
-use Rattle.gb_cols.specs.Keys.{bytes_slot}
-use Rattle.gb_cols.proofs.ChunkedLemmas.{front_slots}
-use Rattle.gb_cols.proofs.chunked.texts.ChunkedArray+Utf8Array.byte_slices.Given as goal
-
-abbrev pub invariant-loop-chunk : goal.invariant-loop-chunk
-invariant-loop-chunk l = map bytes_slot l.keys.items ≡ front_slots (λ ss. ss) l.chunk-items l.chunk-index

@@ -1,0 +1,10 @@
+use Rattle.std.proofs.Common.{◌≡◌, map}
+use Rattle.std.specs.List.{All}
+use Rattle.gb_cols.specs.Keys.{IsToldByWord, word_key}
+use Rattle.gb_cols.proofs.ChunkedLemmas.{front_slots}
+use Rattle.gb_cols.proofs.primitive.ChunkedArray+NumberValues+T.words.Given as goal
+
+abbrev pub invariant-loop-chunk : goal.invariant-loop-chunk
+invariant-loop-chunk g l =
+    let front = front_slots l.chunk-items l.chunk-index in
+    record { keys : l.keys.items ≡ map word_key front; back : All (IsToldByWord g.T.Native.Native.flat) front }

@@ -1,0 +1,291 @@
+//! Values of bytes in a row, as texts, and columns of them.
+
+ghost use Rattle.std.specs.Prelude.{◌≡◌, ℕ, List, Option, Some, ◌++◌, ◌∷◌, ◌<◌, [], length, map, true, get_or, option_map, IfOk, IfErr, IfSome, OnOk, OnErr};
+ghost use Rattle.std.specs.Bool.{OnFalse};
+ghost use Rattle.std.specs.Str.{IsUtf8};
+ghost use Rattle.gb_defs.specs.Cell.{flat_value};
+ghost use Rattle.gb_defs.specs.CellText.{bytes_text};
+ghost use Rattle.gb_defs.specs.ColumnType.{FlatType, Flat, FitsBytes};
+ghost use Rattle.gb_defs.specs.Slot.{Bytes, slot_at};
+ghost use Rattle.gb_cols.specs.Array.{if_taken, start_of};
+ghost use Rattle.gb_cols.specs.Column.{HasRoom, pushed};
+ghost use Rattle.gb_cols.specs.DataType.{type_of};
+ghost use Rattle.gb_cols.specs.Keys.{bytes_slot};
+ghost use Rattle.gb_cols.specs.NoNil.{bytes_no_nil};
+ghost use Rattle.gb_cols.specs.PlSmallStr.{IsNoMemory};
+
+use crate::chunked::ChunkedArray;
+use crate::data_type::{DataType, IsSorted};
+use crate::error::PolarsResult;
+use crate::nullable::{NullableArray, Values};
+use crate::series_trait::SeriesTrait;
+use std::alloc::{AllocError, Global};
+use std::marker::{Model, PhantomData};
+
+/// A kind of values of bytes: the type of their columns, and what their cells are.
+pub trait ByteKind {
+    // The type of a column of these values, which says the bytes that a value may have.
+    ghost flat: { FlatType };
+
+    // The bytes that a cell of a table reads as.
+    ghost read: { List ℕ → Option (List ℕ) };
+
+    fn data_type() -> DataType
+        ensures { type_of result ≡ Flat flat };
+
+    /// What a table's cell reads as, behind the bytes before, and whether it reads. A cell that is known
+    /// to be a text is not looked at again.
+    fn push_cell(bytes: &mut Vec<u8>, cell: &[u8], is_text: bool) -> Result<bool, AllocError>
+        requires { is_text ≡ true → IsUtf8 cell.now }
+        ensures ok { IfOk result (λ took. if_taken took bytes.new.items
+            ≡ option_map (λ more. bytes.old.items ++ more) (read cell.now)) }
+        ensures refused { IfOk result (λ took. OnFalse took (bytes.new.items ≡ bytes.old.items)) }
+        ensures err { OnErr result (bytes.new.items ≡ bytes.old.items) };
+
+    /// The text of a value, behind what is there.
+    fn write_cell(value: &[u8], to: &mut Vec<u8>) -> Result<(), AllocError>
+        ensures { OnOk result (to.new.items ≡ to.old.items ++ bytes_text (Flat flat) value.now) };
+
+    // A cell reads by the definitions.
+    ghost reads: { (cell : List ℕ)
+        → flat_value flat cell ≡ option_map (λ bytes. Bytes bytes) (read cell) };
+
+    // What a cell reads as fits the type.
+    ghost read_fits: { (cell bytes : List ℕ) → read cell ≡ Some bytes → FitsBytes flat bytes };
+
+    // No bytes fit the type.
+    ghost none_fit: { FitsBytes flat [] };
+}
+
+/// Values of bytes in a row: one buffer of bytes, and where each value ends in it.
+#[derive(Drop)]
+pub struct ByteValues<K: ByteKind> {
+    bytes: Vec<u8>,
+    ends: Vec<usize>,
+    kind: PhantomData<K>,
+}
+
+impl<K: ByteKind> Model for ByteValues<K> {
+    ghost use Rattle.std.specs.Prelude.{List, ℕ};
+    ghost use Rattle.std.specs.Coded.{coded_list, coded_ℕ};
+    ghost use Rattle.gb_cols.specs.Array.{pieces_from, ArePieces};
+
+    ghost Value = { List (List ℕ) };
+
+    ghost coded = { coded_list (coded_list coded_ℕ) };
+
+    ghost view = { λ v. pieces_from 0 v.ends.items v.bytes.items };
+
+    ghost invariant = { λ v. ArePieces K.flat v.bytes.items v.ends.items };
+}
+
+// Where the value at a place starts and ends.
+#[inline]
+fn bounds(ends: &Vec<usize>, i: usize) -> (usize, usize)
+    requires { i < length ends.now.items }
+    ensures start { result.0 ≡ start_of 0 ends.now.items i }
+    ensures end { result.1 ≡ get_or ends.now.items i 0 }
+{
+    let start = if i == 0 { 0 } else { ends[i - 1] };
+    (start, ends[i])
+}
+
+impl<K: ByteKind> ByteValues<K> {
+    /// The value at a place.
+    #[inline]
+    pub fn bytes_at(&self, i: usize) -> &[u8]
+        requires { i < length self.now }
+        ensures value { result.now ≡ get_or self.now i [] }
+        ensures fits { FitsBytes K.flat result.now }
+    {
+        let (start, end) = bounds(&self.ends, i);
+        &self.bytes.as_slice()[start..end]
+    }
+
+    /// One value more at the end.
+    #[inline]
+    pub(crate) fn push_bytes(&mut self, value: &[u8]) -> Result<(), AllocError>
+        requires { FitsBytes K.flat value.now }
+        ensures ok { OnOk result (self.new ≡ self.old ++ value.now ∷ []) }
+        ensures err { OnErr result (self.new ≡ self.old) }
+    {
+        self.ends.reserve(1)?;
+        self.bytes.extend_from_slice(value)?;
+        self.ends.push_reserved(self.bytes.len());
+        Ok(())
+    }
+}
+
+impl<K: ByteKind> Values for ByteValues<K> {
+    ghost slots = { λ v. map (λ bytes. Bytes bytes) v };
+
+    ghost dtype = { Flat K.flat };
+
+    ghost none_null = { bytes_no_nil };
+
+    fn empty(alloc: Global) -> Self {
+        ByteValues {
+            bytes: Vec::new(alloc),
+            ends: Vec::new(alloc),
+            kind: PhantomData,
+        }
+    }
+
+    fn data_type() -> DataType {
+        K::data_type()
+    }
+
+    fn len(&self) -> usize {
+        self.ends.len()
+    }
+
+    // How many bytes the values will have is not known.
+    fn reserve(&mut self, additional: usize) -> Result<(), AllocError> {
+        self.ends.reserve(additional)
+    }
+
+    fn push_filler(&mut self) -> Result<(), AllocError> {
+        self.push_bytes(&[])
+    }
+
+    fn push_from(&mut self, other: &Self, i: usize) -> Result<(), AllocError> {
+        self.push_bytes(other.bytes_at(i))
+    }
+
+    #[inline(always)]
+    fn push_cell(&mut self, cell: &[u8], is_text: bool) -> Result<bool, AllocError> {
+        self.ends.reserve(1)?;
+        if !K::push_cell(&mut self.bytes, cell, is_text)? {
+            return Ok(false);
+        }
+        self.ends.push_reserved(self.bytes.len());
+        Ok(true)
+    }
+
+    fn write_cell(&self, i: usize, to: &mut Vec<u8>) -> Result<(), AllocError> {
+        K::write_cell(self.bytes_at(i), to)
+    }
+
+    fn try_clone(&self) -> Result<Self, AllocError> {
+        Ok(ByteValues {
+            bytes: Vec::from_slice(*self.bytes.allocator(), &self.bytes)?,
+            ends: Vec::from_slice(*self.ends.allocator(), &self.ends)?,
+            kind: PhantomData,
+        })
+    }
+}
+
+impl<K: ByteKind> NullableArray<ByteValues<K>> {
+    /// The value at a place.
+    #[inline]
+    pub fn bytes_at(&self, i: usize) -> Option<&[u8]>
+        requires { i < length self.now }
+        ensures { bytes_slot result ≡ slot_at self.now i }
+    {
+        if self.validity.is_valid(i) {
+            Some(self.values.bytes_at(i))
+        } else {
+            None
+        }
+    }
+
+    /// One slot more at the end.
+    pub fn push_bytes(&mut self, value: Option<&[u8]>) -> Result<(), AllocError>
+        requires { IfSome value (λ bytes. FitsBytes K.flat bytes.now) }
+        ensures ok { OnOk result (self.new ≡ self.old ++ bytes_slot value.entry ∷ []) }
+        ensures err { OnErr result (self.new ≡ self.old) }
+    {
+        match value {
+            Some(value) => self.push_valid(value),
+            None => self.push_null(),
+        }
+    }
+
+    // One value more at the end.
+    #[inline]
+    fn push_valid(&mut self, value: &[u8]) -> Result<(), AllocError>
+        requires { FitsBytes K.flat value.now }
+        ensures ok { OnOk result (self.new ≡ self.old ++ Bytes value.now ∷ []) }
+        ensures err { OnErr result (self.new ≡ self.old) }
+    {
+        self.validity.reserve_one()?;
+        self.values.push_bytes(value)?;
+        self.validity.push_reserved_valid();
+        Ok(())
+    }
+
+    /// The values where no slot is null.
+    pub(crate) fn all_valid(&self) -> Option<&ByteValues<K>>
+        ensures { IfSome result (λ values. map (λ bytes. Bytes bytes) values.now ≡ self.now) }
+    {
+        if self.validity.is_empty() {
+            Some(&self.values)
+        } else {
+            None
+        }
+    }
+
+    /// The values behind the keys before, null as `None`.
+    pub(crate) fn push_slices<'a>(
+        &'a self,
+        keys: &mut Vec<Option<&'a [u8]>>,
+    ) -> Result<(), AllocError>
+        ensures { OnOk result
+            (map bytes_slot keys.new.items ≡ map bytes_slot keys.old.items ++ self.now) }
+    {
+        let count = self.len();
+        keys.reserve(count)?;
+        for i in 0..count {
+            keys.push_reserved(self.bytes_at(i));
+        }
+        Ok(())
+    }
+}
+
+impl<K: ByteKind> ChunkedArray<ByteValues<K>> {
+    /// The bytes of a row.
+    pub fn bytes_at(&self, row: usize) -> Option<&[u8]>
+        requires { row < length self.now.slots }
+        ensures { bytes_slot result ≡ slot_at self.now.slots row }
+    {
+        let (chunk, place) = self.locate(row);
+        chunk.bytes_at(place)
+    }
+
+    /// One slot more at the end of the last chunk.
+    pub fn push_bytes(&mut self, slot: Option<&[u8]>) -> PolarsResult<()>
+        requires room { HasRoom self.old }
+        requires fits { IfSome slot (λ bytes. FitsBytes K.flat bytes.now) }
+        ensures ok { OnOk result (self.new ≡ pushed self.old (bytes_slot slot.entry)) }
+        ensures err { IfErr result IsNoMemory }
+        ensures unchanged { OnErr result (self.new ≡ self.old) }
+    {
+        self.last.push_bytes(slot)?;
+        self.sorted = IsSorted::Not;
+        Ok(())
+    }
+
+    /// The values as they lie, where they are in one chunk and none is null.
+    pub fn all_valid(&self) -> Option<&ByteValues<K>>
+        ensures { IfSome result (λ values. map (λ bytes. Bytes bytes) values.now ≡ self.now.slots) }
+    {
+        if self.earlier.is_empty() {
+            self.last.all_valid()
+        } else {
+            None
+        }
+    }
+
+    /// The bytes of the values, null as `None`. One pass over the chunks.
+    pub fn byte_slices(&self) -> PolarsResult<Vec<Option<&[u8]>>>
+        ensures ok { IfOk result (λ keys. map bytes_slot keys.items ≡ self.now.slots) }
+        ensures err { IfErr result IsNoMemory }
+    {
+        let mut keys = Vec::with_capacity(self.allocator(), self.len())?;
+        for chunk in &self.earlier {
+            chunk.push_slices(&mut keys)?;
+        }
+        self.last.push_slices(&mut keys)?;
+        Ok(keys)
+    }
+}

@@ -1,0 +1,4 @@
+use Rattle.gb_tool.proofs.folds.group_sums.number_sums.Goals as goal
+
+pub fold_groups-requires-clause-rows : goal.fold_groups-requires-clause-rows
+fold_groups-requires-clause-rows g c = rw c.new.ensures c.requires.rows
