@@ -4,7 +4,7 @@ use Rattle.std.specs.List.{All, count_by, flat_map, sum}
 use Rattle.std.proofs.lemmas.List.Concat.{length-flat_map}
 use Rattle.std.proofs.lemmas.List.Elements.{All-append}
 use Rattle.std.proofs.lemmas.List.Sums.{count_by-le-length, sum-map, sum_by-append}
-use Rattle.std.proofs.lemmas.List.{append-nil, append_assoc, length-append, length_push, take_more, take-append-drop, take_all}
+use Rattle.std.proofs.lemmas.List.{append-nil, append_assoc, length-append, length_push, drop_more, take_more, take-append-drop, take_all}
 use Rattle.std.proofs.lemmas.Grind.{flat_map-append}
 use Rattle.gb_defs.specs.Slot.{Slot, is_nil}
 use Rattle.gb_defs.specs.ColumnType.{ColumnType}
@@ -60,6 +60,10 @@ pub view_one : (name : List ℕ) (dtype : ColumnType) (last : List Slot) (ss : L
     ◌≡◌ {A = ColumnValue} (record { name = name; dtype = dtype; slots = all_slots [] last; chunks = all_lengths [] last; sorted = NotSorted; all_used = false }) (fresh_column name dtype ss)
 view_one name dtype last ss e = rw (append-nil last, e)
 
+pub fresh_alike : {n m : List ℕ} {t u : ColumnType} {xs ys : List Slot} → n ≡ m → t ≡ u → xs ≡ ys → fresh_column n t xs ≡ fresh_column m u ys
+fresh_alike {n} {m} {t} {u} {xs} {ys} names types slots =
+    ap (λ k. fresh_column k t xs) names ∙ ap (λ k. fresh_column m k xs) types ∙ ap (λ k. fresh_column m u k) slots
+
 -- ---- the place of a row, from the i-th chunk on
 
 abbrev pub from_chunk : List (List Slot) → List Slot → ℕ → List Slot
@@ -77,6 +81,15 @@ front_more earlier a i lt read =
 
 pub front_all : (earlier : List (List Slot)) (last : List Slot) (i : ℕ) → length earlier ≤ i → front_slots earlier i ++ last ≡ all_slots earlier last
 front_all earlier last i le = ap (λ es. flat_map (λ chunk. chunk) es ++ last) (take_all i earlier le) ∙ sym (all_slots_is earlier last)
+
+-- a chunk, what is before it, and what is behind it
+pub slots_around : (earlier : List (List Slot)) (last a : List Slot) (i : ℕ) → i < length earlier → a ≡ get_or earlier i a → all_slots earlier last ≡ front_slots earlier i ++ (a ++ from_chunk earlier last (i + 1))
+slots_around earlier last a i lt read =
+    ap (λ es. all_slots es last) (sym (take-append-drop i earlier))
+    ∙ ap (flat_map (λ chunk. chunk)) (append_assoc (take i earlier) (drop i earlier) (last ∷ []))
+    ∙ flat_map-append (λ chunk. chunk) (take i earlier) (drop i earlier ++ last ∷ [])
+    ∙ ap (λ es. front_slots earlier i ++ flat_map (λ chunk. chunk) (es ++ last ∷ [])) (drop_more earlier i a lt)
+    ∙ ap (λ b. front_slots earlier i ++ (b ++ from_chunk earlier last (i + 1))) (sym read)
 
 -- ---- lengths
 

@@ -1,10 +1,11 @@
 -- Slots under their flags.
-use Rattle.std.proofs.Common.{◌≡◌, inl, inr, ℕ, zero, suc, ◌+◌, ◌<◌, ◌≤◌, Bool, true, false, List, [], ◌∷◌, ◌++◌, length, refl, sym, ◌∙◌, ap, cond, arith, get_or, replicate, not, Option, Some, None, option_map}
-use Rattle.std.proofs.lemmas.List.{length-append, length-replicate}
-use Rattle.std.specs.List.{AllByRecursion, count_by}
+use Rattle.std.proofs.Common.{◌≡◌, inl, inr, ℕ, zero, suc, ◌+◌, ◌<◌, ◌≤◌, Bool, true, false, List, [], ◌∷◌, ◌++◌, length, refl, sym, ◌∙◌, ap, cond, arith, get_or, replicate, take, drop, nat_lt, ◌||◌, not, Option, Some, None, option_map}
+use Rattle.std.proofs.lemmas.List.{length-append, length-drop, length-replicate, length-take}
+use Rattle.std.proofs.lemmas.Bool.Decides.{nat_tests}
+use Rattle.std.specs.List.{AllByRecursion, count_by, list_any}
 use Rattle.std.proofs.lemmas.List.Sums.{sum_by-append}
 use Rattle.gb_defs.specs.Slot.{Slot, Nil, is_nil, slot_at}
-use Rattle.gb_cols.specs.Array.{FitsFlags, filled, flagged_slots, valid_pushed}
+use Rattle.gb_cols.specs.Array.{FitsFlags, IsPartOfFlags, filled, flagged_slots, part_flags, valid_pushed}
 
 pub flagged_none : (slots : List Slot) → flagged_slots slots [] ≡ slots
 flagged_none [] = refl
@@ -154,3 +155,66 @@ module _ (slots : List Slot) (flags : List Bool) (new view : List Slot) (more : 
   pub taken_more : (v : Option Slot) → Some new ≡ option_map (λ slot. slots ++ slot ∷ []) v → Some (flagged_slots new more) ≡ option_map (λ slot. view ++ slot ∷ []) v
   taken_more None e = cc
   taken_more (Some slot) e = let grown : new ≡ slots ++ slot ∷ [] = cc in ap (λ ss. Some ss) (valid_more slot grown)
+
+-- ---- some of the slots behind others
+
+flagged_append : (slots others : List Slot) (flags more : List Bool) → length flags ≡ length slots →
+    flagged_slots (slots ++ others) (flags ++ more) ≡ flagged_slots slots flags ++ flagged_slots others more
+flagged_append [] others [] more h = refl
+flagged_append [] others (f ∷ flags) more h = absurd (omega (arith, h))
+flagged_append (s ∷ slots) others [] more h = absurd (omega (arith, h))
+flagged_append (s ∷ slots) others (f ∷ flags) more h = ap (λ rest. cond f s Nil ∷ rest) (flagged_append slots others flags more (omega arith))
+
+flagged_take : (n : ℕ) (slots : List Slot) (flags : List Bool) → flagged_slots (take n slots) (take n flags) ≡ take n (flagged_slots slots flags)
+flagged_take zero slots flags = refl
+flagged_take (suc n) [] flags = refl
+flagged_take (suc n) (s ∷ slots) [] = flagged_none (s ∷ take n slots) ∙ ap (λ ss. s ∷ take n ss) (sym (flagged_none slots))
+flagged_take (suc n) (s ∷ slots) (f ∷ flags) = ap (λ rest. cond f s Nil ∷ rest) (flagged_take n slots flags)
+
+flagged_drop : (n : ℕ) (slots : List Slot) (flags : List Bool) → flagged_slots (drop n slots) (drop n flags) ≡ drop n (flagged_slots slots flags)
+flagged_drop zero slots flags = refl
+flagged_drop (suc n) [] flags = refl
+flagged_drop (suc n) (s ∷ slots) [] = flagged_none (drop n slots) ∙ ap (drop n) (sym (flagged_none slots))
+flagged_drop (suc n) (s ∷ slots) (f ∷ flags) = flagged_drop n slots flags
+
+flagged_part : (start count : ℕ) (slots : List Slot) (flags : List Bool) → flagged_slots (take count (drop start slots)) (part_flags start count flags) ≡ take count (drop start (flagged_slots slots flags))
+flagged_part start count slots [] = flagged_true (take count (drop start slots)) count ∙ ap (λ ss. take count (drop start ss)) (sym (flagged_none slots))
+flagged_part start count slots (f ∷ flags) = flagged_take count (drop start slots) (drop start (f ∷ flags)) ∙ ap (take count) (flagged_drop start slots (f ∷ flags))
+
+filled_length : (flags : List Bool) (count : ℕ) → FitsFlags (length flags) count → length (filled count flags) ≡ count
+filled_length [] count fits = length-replicate count true
+filled_length (f ∷ flags) count (inl none) = absurd (omega (arith, none))
+filled_length (f ∷ flags) count (inr each) = each
+
+part_length : (start count : ℕ) (flags : List Bool) (values : ℕ) → FitsFlags (length flags) values → start + count ≤ values → length (part_flags start count flags) ≡ count
+part_length start count [] values fits le = length-replicate count true
+part_length start count (f ∷ flags) values (inl none) le = absurd (omega (arith, none))
+part_length start count (f ∷ flags) values (inr each) le = omega (arith, length-take count (drop start (f ∷ flags)), length-drop start (f ∷ flags), each)
+
+-- the other's flags are enough for a part of its slots
+pub part_inside : (start count flags values : ℕ) → FitsFlags flags values → start + count ≤ values → IsPartOfFlags start count flags
+part_inside start count flags values (inl none) le = inl none
+part_inside start count flags values (inr each) le = inr (omega (arith, each, le))
+
+module _ (slots others : List Slot) (flags more : List Bool) (start count : ℕ) (fits : FitsFlags (length flags) (length slots)) (fit : FitsFlags (length more) (length others)) (le : start + count ≤ length others) where
+  pub part_more : flagged_slots (slots ++ take count (drop start others)) (filled (length slots) flags ++ part_flags start count more) ≡ flagged_slots slots flags ++ take count (drop start (flagged_slots others more))
+  part_more =
+      flagged_append slots (take count (drop start others)) (filled (length slots) flags) (part_flags start count more) (filled_length flags (length slots) fits)
+      ∙ ap (λ ss. ss ++ flagged_slots (take count (drop start others)) (part_flags start count more)) (flagged_filled slots flags (length slots))
+      ∙ ap (λ ss. flagged_slots slots flags ++ ss) (flagged_part start count others more)
+
+  pub fits_part : FitsFlags (length (filled (length slots) flags ++ part_flags start count more)) (length (slots ++ take count (drop start others)))
+  fits_part =
+      inr
+      (omega (arith, length-append (filled (length slots) flags) (part_flags start count more), filled_length flags (length slots) fits, part_length start count more (length others) fit le, length-append slots (take count (drop start others)), length-take count (drop start others), length-drop start others, le))
+
+-- ---- whether some are counted
+
+some_more : {X : Type 0} (p : X → Bool) (x : X) (xs : List X) (b : Bool) → p x ≡ b → nat_lt 0 (count_by p xs) ≡ list_any p xs → nat_lt 0 (count_by p (x ∷ xs)) ≡ list_any p (x ∷ xs)
+some_more p x xs true e rest =
+    let positive : nat_lt 0 (1 + count_by p xs) ≡ true = grind (arith, nat_tests) in ap (nat_lt 0) (count_yes p x xs e) ∙ positive ∙ sym (ap (λ b. b || list_any p xs) e)
+some_more p x xs false e rest = ap (nat_lt 0) (count_no p x xs e) ∙ rest ∙ sym (ap (λ b. b || list_any p xs) e)
+
+pub some_counted : {X : Type 0} (p : X → Bool) (xs : List X) → nat_lt 0 (count_by p xs) ≡ list_any p xs
+some_counted p [] = refl
+some_counted p (x ∷ xs) = some_more p x xs (p x) refl (some_counted p xs)

@@ -1,17 +1,19 @@
 -- The slots of a column of numbers as those of a column of another type that the numbers stand for.
-use Rattle.std.proofs.Common.{◌≡◌, ℕ, suc, List, refl, ◌∙◌, ap, inl, inr, ◌||◌, ◌&&◌}
+use Rattle.std.proofs.Common.{◌≡◌, ℕ, suc, List, refl, sym, ◌∙◌, ap, subst, inl, inr, ◌||◌, ◌&&◌, ◌↔◌, IsTrue}
 use Rattle.std.proofs.lemmas.List.Elements.{All-weaker}
 use Rattle.std.specs.Int.{Width}
 use Rattle.std.specs.List.{All}
-use Rattle.gb_defs.specs.Column.{Ascending, Descending, IsFlagTrue, NotSorted, SortedFlag}
-use Rattle.gb_defs.specs.ColumnType.{FlatType, Flat, Fits, FitsBytes, FitsParts, part_type}
+use Rattle.gb_defs.specs.Column.{Ascending, ColumnValue, Descending, IsFlagTrue, NotSorted, SortedFlag}
+use Rattle.gb_defs.specs.ColumnType.{ColumnType, FlatType, Flat, Fits, FitsBytes, FitsParts, part_type}
 use Rattle.gb_defs.specs.Order.{ByCode, below, parts_below}
 use Rattle.gb_defs.specs.Slot.{Slot, Slots, Nil, Num, Bytes, Items, End, And, slot_at, slot_eq}
-use Rattle.gb_cols.specs.Logical.{StandsFor}
-use Rattle.gb_cols.specs.Native.{IsWhole}
+use Rattle.gb_cols.specs.Logical.{StandsFor, typed_as}
+use Rattle.gb_cols.specs.Native.{IsWhole, whole_sortable}
+use Rattle.gb_cols.specs.SlotOrder.{IsOrderOf}
+use Rattle.gb_cols.specs.declared.slot_order.SlotOrder.{SlotOrder}
 
 -- a flat type has no slots with parts
-no_parts : (t : FlatType) (k : ℕ) (parts : Slots) → FitsParts (Flat t) k parts → ⊥
+pub no_parts : (t : FlatType) (k : ℕ) (parts : Slots) → FitsParts (Flat t) k parts → ⊥
 no_parts t k End fits = fits
 no_parts t k (And s ss) fits = no_parts t (suc k) ss fits.1
 
@@ -61,3 +63,20 @@ module _ (stored t : FlatType) (stands : StandsFor stored t) where
   flag_true Descending slots h =
       (stands.sortable, record { ordered = λ i j le lt vi vj. below_alike (slot_at slots i) (slot_at slots j) ∙ h.1.ordered i j le lt vi vj; nulls = h.1.nulls })
   flag_true NotSorted slots h = tt
+
+  -- and what holds for the other type holds of the numbers
+  pub flag_back : (width : Width) → IsWhole width stored → (flag : SortedFlag) (slots : List Slot) → IsFlagTrue flag (Flat t) slots → IsFlagTrue flag (Flat stored) slots
+  flag_back width whole Ascending slots h =
+      (whole_sortable width stored whole, record { ordered = λ i j le lt vi vj. sym (below_alike (slot_at slots j) (slot_at slots i)) ∙ h.1.ordered i j le lt vi vj; nulls = h.1.nulls })
+  flag_back width whole Descending slots h =
+      (whole_sortable width stored whole, record { ordered = λ i j le lt vi vj. sym (below_alike (slot_at slots i) (slot_at slots j)) ∙ h.1.ordered i j le lt vi vj; nulls = h.1.nulls })
+  flag_back width whole NotSorted slots h = tt
+
+  -- the orders are those of the numbers
+  pub order_alike : (width : Width) → IsWhole width stored → (c : ColumnValue) (order : SlotOrder) → c.dtype ≡ Flat stored → IsOrderOf c order → IsOrderOf (typed_as (Flat t) c) order
+  order_alike width whole c order typed is =
+      let numbers = subst (λ (u : ColumnType). (IsTrue order.ascending ↔ IsFlagTrue Ascending u c.slots) × (IsTrue order.descending ↔ IsFlagTrue Descending u c.slots)) typed (is.ascending, is.descending) in
+      record {
+        ascending = (λ e. flag_true Ascending c.slots (numbers.0.0 e), λ h. numbers.0.1 (flag_back width whole Ascending c.slots h));
+        descending = (λ e. flag_true Descending c.slots (numbers.1.0 e), λ h. numbers.1.1 (flag_back width whole Descending c.slots h));
+      }

@@ -1,13 +1,13 @@
 -- Nothing but nulls: their slots, one more or some more.
-use Rattle.std.proofs.Common.{◌≡◌, ℕ, ◌+◌, ◌*◌, ◌<◌, List, [], ◌∷◌, ◌++◌, map, length, replicate, refl, sym, ◌∙◌, ap, arith, false, not, get_or, cond, subst}
-use Rattle.std.specs.List.{All, AllByRecursion, count_by, sum, sum_by}
+use Rattle.std.proofs.Common.{◌≡◌, ℕ, ◌+◌, ◌<◌, List, [], ◌∷◌, ◌++◌, map, length, replicate, refl, sym, ◌∙◌, ap, arith, false, cond, subst}
+use Rattle.std.specs.List.{All, AllByRecursion, count_by, sum}
 use Rattle.std.proofs.lemmas.List.{replicate-append-replicate, length-map, length-replicate, get_or-replicate}
 use Rattle.std.proofs.lemmas.List.Elements.{recursion_from_All}
 use Rattle.std.proofs.lemmas.List.Folds.{sum_by-replicate}
 use Rattle.std.proofs.lemmas.List.Sums.{sum_by-append}
 use Rattle.gb_defs.specs.Slot.{Slot, Nil, is_nil, slot_at}
 use Rattle.gb_defs.specs.ColumnType as column
-use Rattle.gb_defs.specs.Column.{ColumnValue, NotSorted, taken}
+use Rattle.gb_defs.specs.Column.{NotSorted, taken}
 use Rattle.gb_cols.specs.Column.{appended, longer_last, pushed}
 use Rattle.gb_cols.specs.Null.{null_column}
 

@@ -27,7 +27,7 @@ piece_at start (end ∷ ends) bytes zero lt = refl
 piece_at start (end ∷ ends) bytes (suc i) lt =
     piece_at end ends bytes i (omega arith) ∙ ap (λ s. take (get_or ends i 0 - s) (drop s bytes)) (start_next end ends i)
 
-rises_first : (start : ℕ) (ends : List ℕ) (last : ℕ) → Rises start ends last → start ≤ last
+pub rises_first : (start : ℕ) (ends : List ℕ) (last : ℕ) → Rises start ends last → start ≤ last
 rises_first start [] last h = omega (arith, h)
 rises_first start (end ∷ ends) last h = omega (arith, h.0, rises_first end ends last h.1)
 
@@ -72,7 +72,7 @@ rises_push : (start : ℕ) (ends : List ℕ) (last next : ℕ) → Rises start e
 rises_push start [] last next h le = (omega (arith, h, le), refl)
 rises_push start (end ∷ ends) last next h le = (h.0, rises_push end ends last next h.1 le)
 
-piece_more : (start end : ℕ) (bytes more : List ℕ) → start ≤ end → end ≤ length bytes → take (end - start) (drop start (bytes ++ more)) ≡ take (end - start) (drop start bytes)
+pub piece_more : (start end : ℕ) (bytes more : List ℕ) → start ≤ end → end ≤ length bytes → take (end - start) (drop start (bytes ++ more)) ≡ take (end - start) (drop start bytes)
 piece_more start end bytes more low high =
     let at : start ≤ length bytes = omega arith in
     let fits : end - start ≤ length (drop start bytes) = omega (arith, length-drop start bytes) in

@@ -1,10 +1,11 @@
 -- The slots of the storages.
-use Rattle.std.specs.Prelude.{◌≡◌, ◌⊎◌, ◌≤◌, ◌<◌, ℕ, zero, suc, ◌-◌, ℤ, pos, List, [], ◌∷◌, take, drop, length, replicate, get_or, ◌++◌, Bool, true, false, if◌then◌else◌, Option, None, Some, option_map, Vec, vec_len, vec_capacity}
+use Rattle.std.specs.Prelude.{◌≡◌, ◌⊎◌, ◌≤◌, ◌<◌, nat_lt, ℕ, zero, suc, ◌+◌, ◌-◌, ℤ, pos, List, [], ◌∷◌, take, drop, length, replicate, get_or, ◌++◌, Bool, true, false, if◌then◌else◌, Option, None, Some, option_map, Vec, vec_len, vec_capacity}
 use Rattle.std.specs.Global.{Global}
-use Rattle.std.specs.List.{AllByRecursion}
+use Rattle.std.specs.List.{AllByRecursion, filter}
 use Rattle.std.specs.Borrow.{Bor}
 use Rattle.gb_defs.specs.Cell.{value_of_field}
 use Rattle.gb_defs.specs.ColumnType.{ColumnType, FlatType, FitsBytes}
+use Rattle.gb_defs.specs.Slices.{between}
 use Rattle.gb_defs.specs.Slot.{Slot, Nil, Num, Bytes}
 
 -- values with a flag each, null where it is false
@@ -23,9 +24,22 @@ abbrev pub filled : ℕ → List Bool → List Bool
 filled count [] = replicate count true
 filled count (flag ∷ flags) = flag ∷ flags
 
+-- the flags of so many slots from a place on: true for each where there are none
+abbrev pub part_flags : ℕ → ℕ → List Bool → List Bool
+part_flags start count [] = replicate count true
+part_flags start count (flag ∷ flags) = take count (drop start (flag ∷ flags))
+
 -- so many flags are none, or one for each of so many values
 abbrev pub FitsFlags : ℕ → ℕ → Type 0
 FitsFlags flags values = (flags ≡ 0) ⊎ (flags ≡ values)
+
+-- the slots of a chunk from one place up to another, as a chunk, unless there are none
+abbrev pub filled_part : ℕ → ℕ → List Slot → List (List Slot)
+filled_part from to chunk = filter (λ part. nat_lt 0 (length part)) (between from to chunk ∷ [])
+
+-- so many slots from a place on have a flag each, or none has
+abbrev pub IsPartOfFlags : ℕ → ℕ → ℕ → Type 0
+IsPartOfFlags start count flags = (flags ≡ 0) ⊎ (start + count ≤ flags)
 
 -- the slot of a number that may be missing
 abbrev pub native_slot : {N : Type 0} → (N → ℤ) → Option N → Slot

@@ -1,9 +1,9 @@
 -- The column that chunks make, and what a push and an append do to it.
-use Rattle.std.specs.Prelude.{◌≡◌, ℕ, ◌+◌, ◌<◌, ◌^◌, Bool, List, [], ◌∷◌, ◌++◌, map, length, false, Option, option_map}
+use Rattle.std.specs.Prelude.{◌≡◌, ℕ, ◌+◌, ◌<◌, ◌^◌, Bool, List, [], ◌∷◌, ◌++◌, map, length, true, false, Option, None, Some, option_map}
 use Rattle.std.specs.List.{flat_map}
 use Rattle.gb_defs.specs.Cell.{cell_slot}
 use Rattle.gb_defs.specs.CellText.{cell_text}
-use Rattle.gb_defs.specs.Slot.{Slot, slot_at}
+use Rattle.gb_defs.specs.Slot.{Slot, is_nil, slot_at}
 use Rattle.gb_defs.specs.ColumnType.{ColumnType}
 use Rattle.gb_cols.specs.Array.{if_taken}
 use Rattle.gb_defs.specs.Column.{ColumnValue, IsFlagTrue, NotSorted, SortedFlag}
@@ -13,10 +13,25 @@ abbrev pub column_of : ColumnType → List ℕ → SortedFlag → List (List Slo
 column_of dtype name flag chunks =
     record { name = name; dtype = dtype; slots = flat_map (λ chunk. chunk) chunks; chunks = map length chunks; sorted = flag; all_used = false }
 
--- the flag is true, and the slots are fewer than 2^63
+-- the flag is true, the slots are fewer than 2^63, and the chunks fewer than 2^64
 pub record IsSmallColumn (c : ColumnValue) : Type 0 where
   pub flag_true : IsFlagTrue c.sorted c.dtype c.slots
   pub small : length c.slots < 2 ^ 63
+  pub few : length c.chunks < 2 ^ 64
+
+abbrev pub IsNull : Slot → Type 0
+IsNull slot = is_nil slot ≡ true
+
+-- a place holds a slot, and every earlier place a null
+pub record IsFirstValid (slots : List Slot) (place : ℕ) : Type 0 where
+  pub inside : place < length slots
+  pub valid : is_nil (slot_at slots place) ≡ false
+  pub earlier : (k : ℕ) → k < place → is_nil (slot_at slots k) ≡ true
+
+-- a place behind so many, or what was found among those where there is none
+abbrev pub later_place : Option ℕ → ℕ → Option ℕ → Option ℕ
+later_place found before None = found
+later_place found before (Some place) = Some (before + place)
 
 -- the lengths of chunks of which the last has one slot more
 abbrev pub longer_last : List ℕ → List ℕ

@@ -33,8 +33,7 @@ type_of String = column.text
 type_of Binary = column.Flat column.Binary
 type_of BinaryOffset = column.Flat column.BinaryOffset
 
--- there are series of the type: of all but the null type today; a decimal type has its scale
+-- there are series of the type: a decimal type has its scale
 abbrev pub HasColumn : DataType → Type 0
-HasColumn Null = ⊥
 HasColumn (Decimal precision scale) = IsSome scale
 HasColumn _ = Unit {0}

@@ -16,5 +16,6 @@ pub mod NullableIdx
 pub mod PlSmallStr
 pub mod PolarsError
 pub mod Pool
+pub mod SlotOrder
 pub mod Sorted
 pub mod Standard

@@ -1,6 +1,6 @@
 //! Flags in a row, and columns of flags.
 
-ghost use Rattle.std.specs.Prelude.{◌≡◌, ◌++◌, ◌∷◌, ◌<◌, [], length, false, map, get_or, option_map, IfOk, IfErr, OnOk, OnErr};
+ghost use Rattle.std.specs.Prelude.{◌≡◌, ◌++◌, ◌∷◌, ◌<◌, [], length, refl, false, map, get_or, option_map, IfOk, IfErr, OnOk, OnErr};
 ghost use Rattle.gb_defs.specs.Cell.{boolean_value};
 ghost use Rattle.gb_defs.specs.CellText.{boolean_text};
 ghost use Rattle.gb_defs.specs.Column.{fresh_column};
@@ -20,6 +20,7 @@ use crate::series_trait::SeriesTrait;
 use crate::small_str::PlSmallStr;
 use crate::validity::Validity;
 use std::alloc::{AllocError, Global};
+use std::cmp::Ordering;
 use std::marker::Model;
 
 /// Flags in a row.
@@ -82,6 +83,8 @@ impl Values for FlagValues {
 
     ghost none_null = { flags_no_nil };
 
+    ghost sortable = { refl };
+
     fn empty(alloc: Global) -> Self {
         FlagValues {
             flags: Vec::new(alloc),
@@ -108,6 +111,12 @@ impl Values for FlagValues {
         self.push(other.get(i))
     }
 
+    fn extend_from(&mut self, other: &Self, start: usize, count: usize) -> Result<(), AllocError> {
+        let part = &other.flags.as_slice()[start..start + count];
+        self.flags.extend_from_slice(part)?;
+        Ok(())
+    }
+
     #[inline(always)]
     fn push_cell(&mut self, cell: &[u8], _is_text: bool) -> Result<bool, AllocError> {
         match flag_of_cell(cell) {
@@ -122,6 +131,10 @@ impl Values for FlagValues {
     fn write_cell(&self, i: usize, to: &mut Vec<u8>) -> Result<(), AllocError> {
         to.extend_from_slice(word_for(self.get(i)))?;
         Ok(())
+    }
+
+    fn cmp_at(&self, i: usize, other: &Self, j: usize) -> Ordering {
+        self.get(i).cmp(&other.get(j))
     }
 
     fn try_clone(&self) -> Result<Self, AllocError> {

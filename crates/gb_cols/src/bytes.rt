@@ -1,6 +1,6 @@
 //! Values of bytes in a row, as texts, and columns of them.
 
-ghost use Rattle.std.specs.Prelude.{◌≡◌, ℕ, List, Option, Some, ◌++◌, ◌∷◌, ◌<◌, [], length, map, true, get_or, option_map, IfOk, IfErr, IfSome, OnOk, OnErr};
+ghost use Rattle.std.specs.Prelude.{◌≡◌, ℕ, ◌+◌, ◌-◌, ◌^◌, List, Option, Some, ◌++◌, ◌∷◌, ◌<◌, ◌≤◌, [], length, vec_len, vec_capacity, map, true, get_or, option_map, All, IfOk, IfErr, IfSome, OnOk, OnErr};
 ghost use Rattle.std.specs.Bool.{OnFalse};
 ghost use Rattle.std.specs.Str.{IsUtf8};
 ghost use Rattle.gb_defs.specs.Cell.{flat_value};
@@ -11,6 +11,7 @@ ghost use Rattle.gb_cols.specs.Array.{if_taken, start_of};
 ghost use Rattle.gb_cols.specs.Column.{HasRoom, pushed};
 ghost use Rattle.gb_cols.specs.DataType.{type_of};
 ghost use Rattle.gb_cols.specs.Keys.{bytes_slot};
+ghost use Rattle.gb_cols.specs.ByteKind.{bytes_sortable};
 ghost use Rattle.gb_cols.specs.NoNil.{bytes_no_nil};
 ghost use Rattle.gb_cols.specs.PlSmallStr.{IsNoMemory};
 
@@ -20,6 +21,7 @@ use crate::error::PolarsResult;
 use crate::nullable::{NullableArray, Values};
 use crate::series_trait::SeriesTrait;
 use std::alloc::{AllocError, Global};
+use std::cmp::Ordering;
 use std::marker::{Model, PhantomData};
 
 /// A kind of values of bytes: the type of their columns, and what their cells are.
@@ -79,6 +81,15 @@ impl<K: ByteKind> Model for ByteValues<K> {
     ghost invariant = { λ v. ArePieces K.flat v.bytes.items v.ends.items };
 }
 
+// Where the value at a place starts, or the last one ends.
+#[inline]
+fn start_at(ends: &Vec<usize>, i: usize) -> usize
+    requires { i ≤ length ends.now.items }
+    ensures { result ≡ start_of 0 ends.now.items i }
+{
+    if i == 0 { 0 } else { ends[i - 1] }
+}
+
 // Where the value at a place starts and ends.
 #[inline]
 fn bounds(ends: &Vec<usize>, i: usize) -> (usize, usize)
@@ -86,8 +97,19 @@ fn bounds(ends: &Vec<usize>, i: usize) -> (usize, usize)
     ensures start { result.0 ≡ start_of 0 ends.now.items i }
     ensures end { result.1 ≡ get_or ends.now.items i 0 }
 {
-    let start = if i == 0 { 0 } else { ends[i - 1] };
-    (start, ends[i])
+    (start_at(ends, i), ends[i])
+}
+
+// Ends more, for which there is room, as far behind a base as they are behind a start.
+fn push_shifted(ends: &mut Vec<usize>, more: &[usize], from: usize, base: usize)
+    requires room { vec_len ends.old + length more.now ≤ vec_capacity ends.old }
+    requires fits { All (λ end. (from ≤ end) × (base + (end - from) < 2 ^ 64)) more.now }
+    ensures { ends.new.items
+        ≡ ends.old.items ++ map (λ end. base + (end - from)) more.now }
+{
+    for end in more {
+        ends.push_reserved(base + (*end - from));
+    }
 }
 
 impl<K: ByteKind> ByteValues<K> {
@@ -123,6 +145,8 @@ impl<K: ByteKind> Values for ByteValues<K> {
 
     ghost none_null = { bytes_no_nil };
 
+    ghost sortable = { bytes_sortable K.flat K.none_fit };
+
     fn empty(alloc: Global) -> Self {
         ByteValues {
             bytes: Vec::new(alloc),
@@ -152,6 +176,18 @@ impl<K: ByteKind> Values for ByteValues<K> {
         self.push_bytes(other.bytes_at(i))
     }
 
+    fn extend_from(&mut self, other: &Self, start: usize, count: usize) -> Result<(), AllocError> {
+        let from = start_at(&other.ends, start);
+        let to = start_at(&other.ends, start + count);
+        self.ends.reserve(count)?;
+        let base = self.bytes.len();
+        self.bytes
+            .extend_from_slice(&other.bytes.as_slice()[from..to])?;
+        let more = &other.ends.as_slice()[start..start + count];
+        push_shifted(&mut self.ends, more, from, base);
+        Ok(())
+    }
+
     #[inline(always)]
     fn push_cell(&mut self, cell: &[u8], is_text: bool) -> Result<bool, AllocError> {
         self.ends.reserve(1)?;
@@ -164,6 +200,10 @@ impl<K: ByteKind> Values for ByteValues<K> {
 
     fn write_cell(&self, i: usize, to: &mut Vec<u8>) -> Result<(), AllocError> {
         K::write_cell(self.bytes_at(i), to)
+    }
+
+    fn cmp_at(&self, i: usize, other: &Self, j: usize) -> Ordering {
+        self.bytes_at(i).cmp(other.bytes_at(j))
     }
 
     fn try_clone(&self) -> Result<Self, AllocError> {

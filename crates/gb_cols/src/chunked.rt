@@ -1,15 +1,19 @@
 //! Named columns of any values.
 
-ghost use Rattle.std.specs.Prelude.{◌≡◌, ◌+◌, ◌<◌, ◌^◌, [], true, length, option_map, IfOk, IfErr, OnOk, OnErr};
+ghost use Rattle.std.specs.Prelude.{◌≡◌, ◌⊎◌, ◌+◌, ◌<◌, ◌^◌, [], true, length, replicate, option_map, IfOk, IfErr, IfSome, OnOk, OnErr};
 ghost use Rattle.std.specs.Bool.{OnFalse};
 ghost use Rattle.std.specs.Str.{IsUtf8};
 ghost use Rattle.gb_defs.specs.Slot.{Nil, slot_at};
+ghost use Rattle.gb_cols.specs.Column.{later_place};
+ghost use Rattle.gb_cols.specs.SlotOrder.{last_slot, later_slot};
 
 use crate::data_type::{DataType, IsSorted};
 use crate::error::{PolarsError, PolarsResult};
 use crate::nullable::{NullableArray, Values};
 use crate::nullable_idx::IdxSize;
 use crate::series_trait::SeriesTrait;
+use crate::slices::{pop_chunk, push_part, slice_bounds};
+use crate::slot_order::{OrderWalk, SlotOrder};
 use crate::small_str::PlSmallStr;
 use crate::utf8::TextValues;
 use std::alloc::{AllocError, Global};
@@ -98,6 +102,43 @@ impl<V: Values> SeriesTrait for ChunkedArray<V> {
         total + self.last.null_count()
     }
 
+    fn n_chunks(&self) -> usize {
+        self.earlier.len() + 1
+    }
+
+    fn chunk_lengths(&self) -> PolarsResult<Vec<usize>> {
+        let mut lengths = Vec::with_capacity(self.allocator(), self.n_chunks())?;
+        for chunk in &self.earlier {
+            lengths.push(chunk.len())?;
+        }
+        lengths.push(self.last.len())?;
+        Ok(lengths)
+    }
+
+    fn first_non_null(&self) -> Option<usize> {
+        let mut before = 0;
+        for chunk in &self.earlier {
+            match chunk.first_non_null() {
+                Some(place) => return Some(before + place),
+                None => before += chunk.len(),
+            }
+        }
+        match self.last.first_non_null() {
+            Some(place) => Some(before + place),
+            None => None,
+        }
+    }
+
+    fn last_non_null(&self) -> Option<usize> {
+        let mut found = None;
+        let mut before = 0;
+        for chunk in &self.earlier {
+            found = later(found, before, chunk.last_non_null());
+            before += chunk.len();
+        }
+        later(found, before, self.last.last_non_null())
+    }
+
     fn is_valid(&self, row: usize) -> bool {
         let (chunk, place) = self.locate(row);
         chunk.is_valid(place)
@@ -107,12 +148,30 @@ impl<V: Values> SeriesTrait for ChunkedArray<V> {
         self.sorted
     }
 
+    fn set_sorted_flag(&mut self, sorted: IsSorted) {
+        self.sorted = sorted;
+    }
+
+    fn order(&self) -> SlotOrder {
+        // Its clauses say that each slot fits the type.
+        let _ = self.len();
+        let mut walk = OrderWalk::new();
+        let mut before: Option<&NullableArray<V>> = None;
+        for chunk in &self.earlier {
+            if !walk.is_open() {
+                return walk.found();
+            }
+            walk = walk.over(before, chunk);
+            before = later_chunk(before, chunk);
+        }
+        walk.over(before, &self.last).found()
+    }
+
     fn push_null(&mut self) -> PolarsResult<()> {
         self.put_null()?;
         Ok(())
     }
 
-    #[inline(always)]
     fn push_cell(
         &mut self,
         cell: &[u8],
@@ -138,12 +197,61 @@ impl<V: Values> SeriesTrait for ChunkedArray<V> {
             let (chunk, place) = self.locate(*row as usize);
             taken.push_from(chunk, place)?;
         }
+        let name = self.name.try_clone()?;
+        Ok(ChunkedArray::from_chunk(self.allocator(), name, taken))
+    }
+
+    fn slice(&self, offset: i64, len: usize) -> PolarsResult<Self> {
+        let (mut from, mut to) = slice_bounds(self.len(), offset, len);
+        let mut parts = Vec::new(self.allocator());
+        for chunk in &self.earlier {
+            push_part(&mut parts, chunk, from, to)?;
+            from = from.saturating_sub(chunk.len());
+            to = to.saturating_sub(chunk.len());
+        }
+        push_part(&mut parts, &self.last, from, to)?;
+        let last = pop_chunk(&mut parts);
+        Ok(ChunkedArray {
+            name: self.name.try_clone()?,
+            earlier: parts,
+            last,
+            sorted: self.sorted,
+        })
+    }
+
+    fn rechunk(&self) -> PolarsResult<Self> {
+        let mut whole: NullableArray<V> = NullableArray::empty(self.allocator());
+        whole.reserve(self.len())?;
+        for chunk in &self.earlier {
+            whole.extend_from(chunk, 0, chunk.len())?;
+        }
+        whole.extend_from(&self.last, 0, self.last.len())?;
         Ok(ChunkedArray {
             name: self.name.try_clone()?,
             earlier: Vec::new(self.allocator()),
-            last: taken,
-            sorted: IsSorted::Not,
+            last: whole,
+            sorted: self.sorted,
         })
+    }
+
+    fn try_clone(&self) -> PolarsResult<Self> {
+        let mut earlier = Vec::new(self.allocator());
+        earlier.reserve(self.earlier.len())?;
+        for chunk in &self.earlier {
+            earlier.push(chunk.try_clone()?)?;
+        }
+        Ok(ChunkedArray {
+            name: self.name.try_clone()?,
+            earlier,
+            last: self.last.try_clone()?,
+            sorted: self.sorted,
+        })
+    }
+
+    fn new_from_index(&self, i: usize, len: usize) -> PolarsResult<Self> {
+        let repeated = self.repeated(i, len)?;
+        let name = self.name.try_clone()?;
+        Ok(ChunkedArray::from_chunk(self.allocator(), name, repeated))
     }
 }
 
@@ -211,7 +319,8 @@ impl<V: Values> ChunkedArray<V> {
             last,
             sorted: _,
         } = other;
-        let Some(chunks) = later.len().checked_add(1) else {
+        // One chunk more than come: the lengths of the chunks are to have a count.
+        let Some(chunks) = later.len().checked_add(2) else {
             return Err(PolarsError::NoMemory);
         };
         self.earlier.reserve(chunks)?;
@@ -251,6 +360,20 @@ impl<V: Values> ChunkedArray<V> {
         Ok(true)
     }
 
+    // The slot of a row so many times.
+    fn repeated(&self, i: usize, len: usize) -> Result<NullableArray<V>, AllocError>
+        requires { (i < length self.now.slots) ⊎ (len ≡ 0) }
+        ensures { IfOk result (λ chunk. chunk ≡ replicate len (slot_at self.now.slots i)) }
+    {
+        let mut repeated: NullableArray<V> = NullableArray::empty(self.allocator());
+        if len == 0 {
+            return Ok(repeated);
+        }
+        let (chunk, place) = self.locate(i);
+        repeated.push_times(chunk, place, len)?;
+        Ok(repeated)
+    }
+
     // The chunk that a row stands in, and its place there.
     pub(crate) fn locate(&self, row: usize) -> (&NullableArray<V>, usize)
         requires { row < length self.now.slots }
@@ -267,4 +390,27 @@ impl<V: Values> ChunkedArray<V> {
         }
         (&self.last, place)
     }
+}
+
+// A place behind so many, or what was found among those where there is none.
+fn later(found: Option<usize>, before: usize, place: Option<usize>) -> Option<usize>
+    requires { IfSome place (λ k. before + k < 2 ^ 64) }
+    ensures { result ≡ later_place found before place }
+{
+    match place {
+        Some(place) => Some(before + place),
+        None => found,
+    }
+}
+
+// A chunk that has a slot, or the last chunk before it that has one.
+fn later_chunk<'a, V: Values>(
+    before: Option<&'a NullableArray<V>>,
+    chunk: &'a NullableArray<V>,
+) -> Option<&'a NullableArray<V>>
+    requires { IfSome before (λ chunk. 0 < length chunk.now) }
+    ensures some { IfSome result (λ chunk. 0 < length chunk.now) }
+    ensures slot { last_slot result ≡ later_slot (last_slot before.entry) chunk.now }
+{
+    if chunk.len() > 0 { Some(chunk) } else { before }
 }

@@ -22,6 +22,8 @@ pub mod numeric;
 pub mod pool;
 pub mod primitive;
 pub mod series_trait;
+mod slices;
+pub mod slot_order;
 pub mod small_str;
 pub mod standard;
 #[cfg(test)]

@@ -28,6 +28,7 @@ use crate::nullable_idx::IdxSize;
 use crate::numeric::PolarsNumericType;
 use crate::primitive::NumberValues;
 use crate::series_trait::SeriesTrait;
+use crate::slot_order::SlotOrder;
 use crate::small_str::PlSmallStr;
 pub use date::{DateChunked, DateKind};
 pub use datetime::{DatetimeChunked, DatetimeKind};
@@ -181,6 +182,22 @@ impl<K: LogicalKind> SeriesTrait for Logical<K> {
         self.physical.null_count()
     }
 
+    fn n_chunks(&self) -> usize {
+        self.physical.n_chunks()
+    }
+
+    fn chunk_lengths(&self) -> PolarsResult<Vec<usize>> {
+        self.physical.chunk_lengths()
+    }
+
+    fn first_non_null(&self) -> Option<usize> {
+        self.physical.first_non_null()
+    }
+
+    fn last_non_null(&self) -> Option<usize> {
+        self.physical.last_non_null()
+    }
+
     fn is_valid(&self, row: usize) -> bool {
         self.physical.is_valid(row)
     }
@@ -189,11 +206,18 @@ impl<K: LogicalKind> SeriesTrait for Logical<K> {
         self.physical.is_sorted_flag()
     }
 
+    fn set_sorted_flag(&mut self, sorted: IsSorted) {
+        self.physical.set_sorted_flag(sorted)
+    }
+
+    fn order(&self) -> SlotOrder {
+        self.physical.order()
+    }
+
     fn push_null(&mut self) -> PolarsResult<()> {
         self.physical.push_null()
     }
 
-    #[inline(always)]
     fn push_cell(
         &mut self,
         cell: &[u8],
@@ -226,6 +250,34 @@ impl<K: LogicalKind> SeriesTrait for Logical<K> {
     fn take(&self, rows: &[IdxSize]) -> PolarsResult<Self> {
         Ok(Logical {
             physical: self.physical.take(rows)?,
+            kind: self.kind,
+        })
+    }
+
+    fn slice(&self, offset: i64, len: usize) -> PolarsResult<Self> {
+        Ok(Logical {
+            physical: self.physical.slice(offset, len)?,
+            kind: self.kind,
+        })
+    }
+
+    fn rechunk(&self) -> PolarsResult<Self> {
+        Ok(Logical {
+            physical: self.physical.rechunk()?,
+            kind: self.kind,
+        })
+    }
+
+    fn try_clone(&self) -> PolarsResult<Self> {
+        Ok(Logical {
+            physical: self.physical.try_clone()?,
+            kind: self.kind,
+        })
+    }
+
+    fn new_from_index(&self, i: usize, len: usize) -> PolarsResult<Self> {
+        Ok(Logical {
+            physical: self.physical.new_from_index(i, len)?,
             kind: self.kind,
         })
     }

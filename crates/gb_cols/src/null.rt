@@ -1,11 +1,16 @@
 //! Columns of nothing but nulls, which take no memory for them.
 
-ghost use Rattle.std.specs.Prelude.{◌≡◌, ◌<◌, ◌^◌, sum};
+ghost use Rattle.std.specs.Prelude.{◌≡◌, ◌<◌, ◌^◌, ◌++◌, ◌∷◌, [], sum, OnOk};
+ghost use Rattle.gb_defs.specs.Slices.{or_one};
+ghost use Rattle.gb_defs.specs.ColumnType.{Flat, Null};
+ghost use Rattle.gb_cols.specs.Null.{AreNulls, counted_part};
 
 use crate::data_type::{DataType, IsSorted};
 use crate::error::{PolarsError, PolarsResult};
 use crate::nullable_idx::IdxSize;
 use crate::series_trait::SeriesTrait;
+use crate::slices::slice_bounds;
+use crate::slot_order::SlotOrder;
 use crate::small_str::PlSmallStr;
 use std::alloc::{AllocError, Global};
 use std::marker::Model;
@@ -99,7 +104,10 @@ impl SeriesTrait for NullChunked {
         &self.name
     }
 
-    fn allocator(&self) -> Global {
+    fn allocator(&self) -> Global
+        ensures typed { self.now.dtype ≡ Flat Null }
+        ensures nulls { AreNulls self.now.slots }
+    {
         *self.earlier.allocator()
     }
 
@@ -126,6 +134,27 @@ impl SeriesTrait for NullChunked {
         self.len()
     }
 
+    fn n_chunks(&self) -> usize {
+        self.earlier.len() + 1
+    }
+
+    fn chunk_lengths(&self) -> PolarsResult<Vec<usize>> {
+        let mut lengths = Vec::with_capacity(self.allocator(), self.n_chunks())?;
+        lengths.extend_from_slice(&self.earlier)?;
+        lengths.push(self.last)?;
+        Ok(lengths)
+    }
+
+    fn first_non_null(&self) -> Option<usize> {
+        let _ = &self.name;
+        None
+    }
+
+    fn last_non_null(&self) -> Option<usize> {
+        let _ = &self.name;
+        None
+    }
+
     fn is_valid(&self, _row: usize) -> bool {
         let _ = &self.name;
         false
@@ -134,6 +163,19 @@ impl SeriesTrait for NullChunked {
     fn is_sorted_flag(&self) -> IsSorted {
         let _ = &self.name;
         IsSorted::Not
+    }
+
+    // Only what is no order is asked of it.
+    fn set_sorted_flag(&mut self, _sorted: IsSorted) {
+        let _ = &self.name;
+    }
+
+    fn order(&self) -> SlotOrder {
+        let _ = &self.name;
+        SlotOrder {
+            ascending: false,
+            descending: false,
+        }
     }
 
     fn push_null(&mut self) -> PolarsResult<()> {
@@ -164,4 +206,62 @@ impl SeriesTrait for NullChunked {
     fn take(&self, rows: &[IdxSize]) -> PolarsResult<Self> {
         Ok(NullChunked::new(self.allocator(), self.name.try_clone()?, rows.len()))
     }
+
+    fn slice(&self, offset: i64, len: usize) -> PolarsResult<Self> {
+        let (mut from, mut to) = slice_bounds(self.len(), offset, len);
+        let mut counts = Vec::new(self.allocator());
+        for chunk in &self.earlier {
+            push_count(&mut counts, *chunk, from, to)?;
+            from = from.saturating_sub(*chunk);
+            to = to.saturating_sub(*chunk);
+        }
+        push_count(&mut counts, self.last, from, to)?;
+        let last = pop_count(&mut counts);
+        Ok(NullChunked {
+            name: self.name.try_clone()?,
+            earlier: counts,
+            last,
+        })
+    }
+
+    fn rechunk(&self) -> PolarsResult<Self> {
+        let name = self.name.try_clone()?;
+        Ok(NullChunked::new(self.allocator(), name, self.len()))
+    }
+
+    fn try_clone(&self) -> PolarsResult<Self> {
+        Ok(NullChunked {
+            name: self.name.try_clone()?,
+            earlier: Vec::from_slice(self.allocator(), &self.earlier)?,
+            last: self.last,
+        })
+    }
+
+    fn new_from_index(&self, _i: usize, len: usize) -> PolarsResult<Self> {
+        let name = self.name.try_clone()?;
+        Ok(NullChunked::new(self.allocator(), name, len))
+    }
+}
+
+// How many of a chunk's places stand from one up to another, as a chunk more, unless there are none.
+fn push_count(
+    counts: &mut Vec<usize>,
+    chunk: usize,
+    from: usize,
+    to: usize,
+) -> Result<(), AllocError>
+    ensures { OnOk result (counts.new.items ≡ counts.old.items ++ counted_part from to chunk) }
+{
+    let end = to.min(chunk);
+    if from < end {
+        counts.push(end - from)?;
+    }
+    Ok(())
+}
+
+// The last count, taken off the others: 0 where there is none.
+fn pop_count(counts: &mut Vec<usize>) -> usize
+    ensures { counts.new.items ++ result ∷ [] ≡ or_one 0 counts.old.items }
+{
+    counts.pop().unwrap_or(0)
 }

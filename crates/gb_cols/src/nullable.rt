@@ -1,19 +1,24 @@
 //! Values in a row, and such values that may be null: the storage of every column with a buffer of its
 //! own.
 
-ghost use Rattle.std.specs.Prelude.{◌≡◌, ◌++◌, ◌∷◌, ◌<◌, ◌^◌, [], List, length, not, true, false, All, IfOk, OnOk, OnErr};
+ghost use Rattle.std.specs.Prelude.{◌≡◌, ◌+◌, ◌++◌, ◌∷◌, ◌<◌, ◌≤◌, ◌^◌, [], List, length, IsTrue, take, drop, replicate, not, true, false, All, IfOk, OnOk, OnErr, MatchOption};
 ghost use Rattle.std.specs.List.{AllByRecursion, count_by};
 ghost use Rattle.std.specs.Bool.{OnFalse};
 ghost use Rattle.std.specs.Str.{IsUtf8};
 ghost use Rattle.gb_defs.specs.CellText.{cell_text};
+ghost use Rattle.gb_defs.specs.Column.{IsLastValid};
 ghost use Rattle.gb_defs.specs.ColumnType.{ColumnType, Fits};
+ghost use Rattle.gb_defs.specs.Column.{may_be_sorted};
 ghost use Rattle.gb_defs.specs.Slot.{Slot, Nil, is_nil, slot_at};
 ghost use Rattle.gb_cols.specs.Array.{HasOneMore, TakesField};
+ghost use Rattle.gb_cols.specs.Column.{IsFirstValid, IsNull};
 ghost use Rattle.gb_cols.specs.DataType.{type_of};
+ghost use Rattle.gb_cols.specs.SlotOrder.{ComparesAs};
 
 use crate::data_type::DataType;
 use crate::validity::Validity;
 use std::alloc::{AllocError, Global};
+use std::cmp::Ordering;
 use std::marker::Model;
 
 /// Values in a row, none of them null.
@@ -53,6 +58,13 @@ pub trait Values: Drop {
             (slots self.new ≡ slots self.old ++ slot_at (slots other.now) i ∷ []) }
         ensures err { OnErr result (slots self.new ≡ slots self.old) };
 
+    /// The other's values from a place on, so many, once more at the end.
+    fn extend_from(&mut self, other: &Self, start: usize, count: usize) -> Result<(), AllocError>
+        requires { start + count ≤ length (slots other.now) }
+        ensures ok { let part = take count (drop start (slots other.now)) in
+            OnOk result (slots self.new ≡ slots self.old ++ part) }
+        ensures err { OnErr result (slots self.new ≡ slots self.old) };
+
     /// The value that a table's cell reads as at the end, and whether it reads. A cell that is known to
     /// be a text is not looked at again.
     fn push_cell(&mut self, cell: &[u8], is_text: bool) -> Result<bool, AllocError>
@@ -67,12 +79,22 @@ pub trait Values: Drop {
         ensures { let text = cell_text [] dtype (slot_at (slots self.now) i) in
             OnOk result (to.new.items ≡ to.old.items ++ text) };
 
+    /// How the value at a place compares to another's.
+    fn cmp_at(&self, i: usize, other: &Self, j: usize) -> Ordering
+        requires inside { i < length (slots self.now) }
+        requires other_inside { j < length (slots other.now) }
+        ensures { let b = slot_at (slots other.now) j in
+            ComparesAs dtype (slot_at (slots self.now) i) b result };
+
     /// The same values.
     fn try_clone(&self) -> Result<Self, AllocError>
         ensures { IfOk result (λ copy. slots copy ≡ slots self.now) };
 
     // No value is a null.
     ghost none_null: { (v : Self) → AllByRecursion (λ slot. is_nil slot ≡ false) (slots v) };
+
+    // A column of these values may be in order.
+    ghost sortable: { IsTrue (may_be_sorted dtype) };
 }
 
 /// Values that may be null: the values, and which of them are valid; no flags where none is null.
@@ -143,7 +165,7 @@ impl<V: Values> NullableArray<V> {
         ensures ok { OnOk result (self.new ≡ self.old ++ Nil ∷ []) }
         ensures err { OnErr result (self.new ≡ self.old) }
     {
-        self.validity.fill(self.values.len())?;
+        self.validity.fill(self.values.len(), 1)?;
         self.values.push_filler()?;
         self.validity.push_reserved_null();
         Ok(())
@@ -175,6 +197,65 @@ impl<V: Values> NullableArray<V> {
         Ok(())
     }
 
+    /// The other's slots from a place on, so many, once more at the end.
+    pub fn extend_from(
+        &mut self,
+        other: &Self,
+        start: usize,
+        count: usize,
+    ) -> Result<(), AllocError>
+        requires { start + count ≤ length other.now }
+        ensures ok { OnOk result (self.new ≡ self.old ++ take count (drop start other.now)) }
+        ensures err { OnErr result (self.new ≡ self.old) }
+    {
+        if self.validity.is_empty() && other.validity.is_empty() {
+            self.values.extend_from(&other.values, start, count)?;
+            return Ok(());
+        }
+        self.validity.fill(self.values.len(), count)?;
+        self.values.extend_from(&other.values, start, count)?;
+        self.validity.extend_reserved(&other.validity, start, count);
+        Ok(())
+    }
+
+    /// The other's slot at a place, so many times more at the end.
+    pub fn push_times(&mut self, other: &Self, i: usize, count: usize) -> Result<(), AllocError>
+        requires { i < length other.now }
+        ensures { OnOk result (self.new ≡ self.old ++ replicate count (slot_at other.now i)) }
+    {
+        self.reserve(count)?;
+        for _time in 0..count {
+            self.push_from(other, i)?;
+        }
+        Ok(())
+    }
+
+    /// The first place whose slot is no null.
+    pub fn first_non_null(&self) -> Option<usize>
+        ensures { MatchOption result (All IsNull self.now) (IsFirstValid self.now) }
+    {
+        for i in 0..self.len() {
+            if self.is_valid(i) {
+                return Some(i);
+            }
+        }
+        None
+    }
+
+    /// The last place whose slot is no null.
+    pub fn last_non_null(&self) -> Option<usize>
+        ensures { MatchOption result (All IsNull self.now) (IsLastValid self.now) }
+    {
+        let mut end = self.len();
+        while end > 0 {
+            end -= 1;
+            if self.is_valid(end) {
+                return Some(end);
+            }
+        }
+        None
+    }
+
     /// The slot that a table's cell reads as at the end, and whether it reads. A cell that is known to be
     /// a text is not looked at again; the null word is for the caller to meet.
     #[inline(always)]
@@ -204,6 +285,17 @@ impl<V: Values> NullableArray<V> {
             to.extend_from_slice(null_word.as_bytes())?;
             Ok(())
         }
+    }
+
+    /// How the slot at a place compares to another's, where neither is null.
+    pub(crate) fn cmp_at(&self, i: usize, other: &Self, j: usize) -> Ordering
+        requires inside { i < length self.now }
+        requires other_inside { j < length other.now }
+        requires valid { is_nil (slot_at self.now i) ≡ false }
+        requires other_valid { is_nil (slot_at other.now j) ≡ false }
+        ensures { ComparesAs V.dtype (slot_at self.now i) (slot_at other.now j) result }
+    {
+        self.values.cmp_at(i, &other.values, j)
     }
 
     /// The same slots.

@@ -7,6 +7,7 @@ ghost use Rattle.gb_defs.specs.Slot.{Num};
 ghost use Rattle.gb_defs.specs.Cell.{magnitude, magnitude_within, signed_value, unsigned_value};
 
 /// Whether a minus stands in front, and what stands behind a sign.
+#[inline(always)]
 pub(crate) fn without_sign(cell: &[u8]) -> (bool, &[u8])
     ensures negative { result.0 ≡ starts_with_minus cell.now }
     ensures rest { result.1.now ≡ without_leading_sign cell.now }
@@ -23,7 +24,7 @@ pub(crate) fn without_sign(cell: &[u8]) -> (bool, &[u8])
 }
 
 // What stands behind a plus.
-#[inline]
+#[inline(always)]
 fn without_plus(cell: &[u8]) -> &[u8]
     ensures { result.now ≡ without_leading_plus cell.now }
 {
@@ -34,6 +35,7 @@ fn without_plus(cell: &[u8]) -> &[u8]
 }
 
 // The number that at most 19 digits write, None where a byte is no digit.
+#[inline(always)]
 fn short_magnitude(digits: &[u8]) -> Option<u64>
     requires { length digits.now ≤ 19 }
     ensures { result ≡ magnitude digits.now }
@@ -65,6 +67,7 @@ fn long_magnitude(digits: &[u8]) -> Option<u64>
 }
 
 // The same. Few digits need no look at whether they fit.
+#[inline(always)]
 fn magnitude_of(digits: &[u8]) -> Option<u64>
     ensures { result ≡ magnitude digits.now }
 {
@@ -92,7 +95,7 @@ pub(crate) fn signed_number(cell: &[u8]) -> Option<i64>
 }
 
 /// The number of 64 bits that a cell is, with an optional plus.
-#[inline]
+#[inline(always)]
 pub(crate) fn unsigned_number(cell: &[u8]) -> Option<u64>
     ensures { option_map (λ n. Num (pos n)) result ≡ unsigned_value w64 cell.now }
 {

@@ -3,6 +3,7 @@
 
 ghost use Rattle.std.specs.Prelude.{◌≡◌, ◌<◌, ◌^◌, ◌%◌, ℤ, pos, ◌+ℤ◌, ◌++◌, length, false, option_map, OnOk};
 ghost use Rattle.std.specs.Bool.{Decides};
+ghost use Rattle.std.specs.Ordering.{int_cmp};
 ghost use Rattle.std.specs.Int.{Width, w128, cast_unsigned};
 ghost use Rattle.gb_defs.specs.Cell.{flat_value};
 ghost use Rattle.gb_defs.specs.CellText.{number_text};
@@ -40,7 +41,7 @@ pub use u64::{UInt64Chunked, UInt64Type};
 
 /// A whole number of a fixed width: all that columns, hashes and tables ask of it.
 // No Send or Sync here: an impl that calls a function with that bound would get no proof.
-pub trait Native: Copy + Eq + Hash + Integer {
+pub trait Native: Copy + Eq + Ord + Hash + Integer {
     // The integer that a value is.
     ghost number: { Self → ℤ };
 
@@ -90,6 +91,9 @@ pub trait Native: Copy + Eq + Hash + Integer {
 
     // Values are equal where their numbers are.
     ghost equal_by_number: { (a b : Self) → Decides (Self.eq a b) (number a ≡ number b) };
+
+    // Values are in the order of their numbers.
+    ghost ordered_by_number: { (a b : Self) → Self.cmp a b ≡ int_cmp (number a) (number b) };
 
     // A value is printed as its number.
     ghost printed: { (n : Self) → Self.text n ≡ number_text (Flat flat) (number n) };

@@ -8,7 +8,7 @@ ghost use Rattle.gb_cols.specs.Array.{native_slot};
 ghost use Rattle.gb_cols.specs.Column.{HasRoom, pushed};
 ghost use Rattle.gb_cols.specs.Keys.{AreWide, AreWords, HasWideMore, HasWordsMore, IsToldByWide, IsToldByWord, wide_key, word_key};
 ghost use Rattle.gb_cols.specs.PlSmallStr.{name_of, IsNoMemory};
-ghost use Rattle.gb_cols.specs.Native.{is_wide};
+ghost use Rattle.gb_cols.specs.Native.{is_wide, whole_sortable};
 ghost use Rattle.gb_cols.specs.NoNil.{numbers_no_nil};
 
 use crate::chunked::ChunkedArray;
@@ -19,6 +19,7 @@ use crate::numeric::{Native, PolarsNumericType, write_number};
 use crate::series_trait::SeriesTrait;
 use crate::small_str::PlSmallStr;
 use std::alloc::{AllocError, Global};
+use std::cmp::Ordering;
 use std::marker::Model;
 
 /// Numbers in a row.
@@ -56,7 +57,7 @@ impl<T: PolarsNumericType> NumberValues<T> {
     }
 
     /// One number more at the end.
-    #[inline]
+    #[inline(always)]
     pub(crate) fn push(&mut self, value: T::Native) -> Result<(), AllocError>
         ensures ok { OnOk result (self.new ≡ self.old ++ T.Native.number value ∷ []) }
         ensures err { OnErr result (self.new ≡ self.old) }
@@ -74,6 +75,8 @@ impl<T: PolarsNumericType> Values for NumberValues<T> {
     ghost dtype = { Flat T.Native.flat };
 
     ghost none_null = { numbers_no_nil };
+
+    ghost sortable = { whole_sortable T.Native.width T.Native.flat T.Native.whole };
 
     fn empty(alloc: Global) -> Self {
         NumberValues {
@@ -102,6 +105,12 @@ impl<T: PolarsNumericType> Values for NumberValues<T> {
         self.push(other.get(i))
     }
 
+    fn extend_from(&mut self, other: &Self, start: usize, count: usize) -> Result<(), AllocError> {
+        let part = &other.values.as_slice()[start..start + count];
+        self.values.extend_from_slice(part)?;
+        Ok(())
+    }
+
     #[inline(always)]
     fn push_cell(&mut self, cell: &[u8], _is_text: bool) -> Result<bool, AllocError> {
         match T::Native::from_cell(cell) {
@@ -115,6 +124,10 @@ impl<T: PolarsNumericType> Values for NumberValues<T> {
 
     fn write_cell(&self, i: usize, to: &mut Vec<u8>) -> Result<(), AllocError> {
         write_number(self.get(i), to)
+    }
+
+    fn cmp_at(&self, i: usize, other: &Self, j: usize) -> Ordering {
+        self.get(i).cmp(&other.get(j))
     }
 
     fn try_clone(&self) -> Result<Self, AllocError> {

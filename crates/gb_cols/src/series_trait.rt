@@ -1,20 +1,22 @@
 //! What every column can be asked, whatever its type.
 
-ghost use Rattle.std.specs.Prelude.{◌≡◌, ◌==◌, ℕ, ◌+◌, ◌++◌, ◌<◌, ◌^◌, true, not, length, sum, IfOk, IfErr, OnOk, OnErr, All};
+ghost use Rattle.std.specs.Prelude.{◌≡◌, ◌≢◌, ◌↔◌, ◌==◌, IsTrue, ◌⊎◌, ℕ, ◌+◌, ◌++◌, ◌<◌, ◌^◌, true, not, length, sum, IfOk, IfErr, OnOk, OnErr, MatchOption, All};
 ghost use Rattle.std.specs.Bool.{OnFalse};
-ghost use Rattle.std.specs.List.{count_by};
+ghost use Rattle.std.specs.List.{count_by, list_any, position};
 ghost use Rattle.std.specs.Str.{IsUtf8};
 ghost use Rattle.gb_defs.specs.Slot.{Nil, is_nil, slot_at};
-ghost use Rattle.gb_defs.specs.Column.{ColumnValue, IsFlagTrue, taken};
+ghost use Rattle.gb_defs.specs.Column.{Ascending, Descending, NotSorted, ColumnValue, IsDetected, IsFlagTrue, IsLastValid, flagged, is_valid, rechunked, repeated, sliced, taken};
 ghost use Rattle.gb_defs.specs.ColumnType.{Fits};
-ghost use Rattle.gb_cols.specs.Column.{HasRoom, TakesCell, cell_of, pushed};
+ghost use Rattle.gb_cols.specs.Column.{HasRoom, IsNull, TakesCell, cell_of, pushed};
 ghost use Rattle.gb_cols.specs.DataType.{type_of};
 ghost use Rattle.gb_cols.specs.PlSmallStr.{name_of, IsNoMemory};
+ghost use Rattle.gb_cols.specs.SlotOrder.{IsOrderOf};
 ghost use Rattle.gb_cols.specs.Sorted.{flag_of};
 
 use crate::data_type::{DataType, IsSorted};
 use crate::error::PolarsResult;
 use crate::nullable_idx::IdxSize;
+use crate::slot_order::SlotOrder;
 use crate::small_str::PlSmallStr;
 use std::alloc::{AllocError, Global};
 
@@ -51,6 +53,29 @@ pub trait SeriesTrait: Drop {
     fn null_count(&self) -> usize
         ensures { result ≡ count_by is_nil (value self.now).slots };
 
+    /// Whether some slot is null. One pass over the chunks.
+    fn has_nulls(&self) -> bool
+        ensures { result ≡ list_any is_nil (value self.now).slots }
+    {
+        self.null_count() > 0
+    }
+
+    fn n_chunks(&self) -> usize
+        ensures { result ≡ length (value self.now).chunks };
+
+    fn chunk_lengths(&self) -> PolarsResult<Vec<usize>>
+        ensures ok { IfOk result (λ lengths. lengths.items ≡ (value self.now).chunks) }
+        ensures err { IfErr result IsNoMemory };
+
+    /// The first row whose slot is no null.
+    fn first_non_null(&self) -> Option<usize>
+        ensures { result ≡ position is_valid (value self.now).slots };
+
+    /// The last row whose slot is no null. It looks into each chunk.
+    fn last_non_null(&self) -> Option<usize>
+        ensures { let slots = (value self.now).slots in
+            MatchOption result (All IsNull slots) (IsLastValid slots) };
+
     /// Whether the slot of a row is no null.
     fn is_valid(&self, row: usize) -> bool
         requires { row < length (value self.now).slots }
@@ -60,6 +85,74 @@ pub trait SeriesTrait: Drop {
     fn is_sorted_flag(&self) -> IsSorted
         ensures value { flag_of result ≡ (value self.now).sorted }
         ensures holds { let c = value self.now in IsFlagTrue c.sorted c.dtype c.slots };
+
+    /// Whether the slots are known to ascend.
+    fn is_sorted_ascending_flag(&self) -> bool
+        ensures { IsTrue result ↔ ((value self.now).sorted ≡ Ascending) }
+    {
+        match self.is_sorted_flag() {
+            IsSorted::Ascending => true,
+            IsSorted::Descending => false,
+            IsSorted::Not => false,
+        }
+    }
+
+    /// Whether the slots are known to descend.
+    fn is_sorted_descending_flag(&self) -> bool
+        ensures { IsTrue result ↔ ((value self.now).sorted ≡ Descending) }
+    {
+        match self.is_sorted_flag() {
+            IsSorted::Ascending => false,
+            IsSorted::Descending => true,
+            IsSorted::Not => false,
+        }
+    }
+
+    /// Whether the slots are known to be in some order.
+    fn is_sorted_any(&self) -> bool
+        ensures { IsTrue result ↔ ((value self.now).sorted ≢ NotSorted) }
+    {
+        match self.is_sorted_flag() {
+            IsSorted::Ascending => true,
+            IsSorted::Descending => true,
+            IsSorted::Not => false,
+        }
+    }
+
+    /// The flag replaced.
+    fn set_sorted_flag(&mut self, sorted: IsSorted)
+        requires { let c = value self.old in IsFlagTrue (flag_of sorted) c.dtype c.slots }
+        ensures { value self.new ≡ flagged (flag_of sorted) (value self.old) };
+
+    /// The orders that the column is in. One pass, no memory.
+    fn order(&self) -> SlotOrder
+        ensures { IsOrderOf (value self.now) result };
+
+    /// Whether the flag would be true. One pass, no memory.
+    fn check_sorted(&self, sorted: IsSorted) -> bool
+        ensures { let c = value self.now in
+            IsTrue result ↔ IsFlagTrue (flag_of sorted) c.dtype c.slots }
+    {
+        match sorted {
+            IsSorted::Ascending => self.order().ascending,
+            IsSorted::Descending => self.order().descending,
+            IsSorted::Not => true,
+        }
+    }
+
+    /// Ascending where that is true, else descending where that is, else neither. One pass, no memory.
+    fn detect_sorted(&self) -> IsSorted
+        ensures { IsDetected (flag_of result) (value self.now) }
+    {
+        let order = self.order();
+        if order.ascending {
+            IsSorted::Ascending
+        } else if order.descending {
+            IsSorted::Descending
+        } else {
+            IsSorted::Not
+        }
+    }
 
     /// One null more at the end of the last chunk.
     fn push_null(&mut self) -> PolarsResult<()>
@@ -89,5 +182,28 @@ pub trait SeriesTrait: Drop {
     fn take(&self, rows: &[IdxSize]) -> PolarsResult<Self>
         requires { All (λ row. row < length (value self.now).slots) rows.now }
         ensures ok { IfOk result (λ c. value c ≡ taken rows.now (value self.now)) }
+        ensures err { IfErr result IsNoMemory };
+
+    /// The slots from an offset on, so many at most, with the flag. A negative offset counts from the
+    /// end. Copies what it shows.
+    fn slice(&self, offset: i64, len: usize) -> PolarsResult<Self>
+        ensures ok { IfOk result (λ c. value c ≡ sliced offset len (value self.now)) }
+        ensures err { IfErr result IsNoMemory };
+
+    /// The same slots and flags, in one chunk.
+    fn rechunk(&self) -> PolarsResult<Self>
+        ensures ok { IfOk result (λ c. value c ≡ rechunked (value self.now)) }
+        ensures err { IfErr result IsNoMemory };
+
+    /// The same column.
+    fn try_clone(&self) -> PolarsResult<Self>
+        ensures ok { IfOk result (λ c. value c ≡ value self.now) }
+        ensures err { IfErr result IsNoMemory };
+
+    /// The slot of a row so many times, in one chunk.
+    fn new_from_index(&self, i: usize, len: usize) -> PolarsResult<Self>
+        requires inside { (i < length (value self.now).slots) ⊎ (len ≡ 0) }
+        requires few { len < 2 ^ 63 }
+        ensures ok { IfOk result (λ c. value c ≡ repeated i len (value self.now)) }
         ensures err { IfErr result IsNoMemory };
 }

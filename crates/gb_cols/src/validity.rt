@@ -1,8 +1,8 @@
 //! Which slots of a storage are null.
 
-ghost use Rattle.std.specs.Prelude.{◌≡◌, ◌<◌, ◌++◌, ◌∷◌, [], vec_len, vec_capacity, true, false, not, IfOk, OnOk, OnErr, slice_index_or};
+ghost use Rattle.std.specs.Prelude.{◌≡◌, ◌+◌, ◌<◌, ◌≤◌, ◌++◌, ◌∷◌, [], length, vec_len, vec_capacity, true, false, not, IfOk, OnOk, OnErr, slice_index_or};
 ghost use Rattle.std.specs.List.{count_by};
-ghost use Rattle.gb_cols.specs.Array.{HasRoomForValid, filled, valid_pushed};
+ghost use Rattle.gb_cols.specs.Array.{HasRoomForValid, IsPartOfFlags, filled, part_flags, valid_pushed};
 
 use std::alloc::{AllocError, Global};
 
@@ -68,19 +68,20 @@ impl Validity {
         }
     }
 
-    /// A flag for each of so many slots, where there are none, and room for one more.
-    pub(crate) fn fill(&mut self, count: usize) -> Result<(), AllocError>
+    /// A flag for each of so many slots, where there are none, and room for so many more.
+    pub(crate) fn fill(&mut self, count: usize, additional: usize) -> Result<(), AllocError>
         ensures ok { OnOk result (self.new.flags.items ≡ filled count self.old.flags.items) }
-        ensures room { OnOk result (vec_len self.new.flags < vec_capacity self.new.flags) }
+        ensures room { let flags = self.new.flags in
+            OnOk result (vec_len flags + additional ≤ vec_capacity flags) }
         ensures err { OnErr result (self.new.flags.items ≡ self.old.flags.items) }
     {
         if self.flags.is_empty() {
             let mut flags = Vec::new(*self.flags.allocator());
             flags.resize(count, true)?;
-            flags.reserve(1)?;
+            flags.reserve(additional)?;
             self.flags = flags;
         } else {
-            self.flags.reserve(1)?;
+            self.flags.reserve(additional)?;
         }
         Ok(())
     }
@@ -91,6 +92,24 @@ impl Validity {
         ensures { self.new.flags.items ≡ self.old.flags.items ++ false ∷ [] }
     {
         self.flags.push_reserved(false);
+    }
+
+    /// The other's flags of so many slots from a place on, for which there is room.
+    pub(crate) fn extend_reserved(&mut self, other: &Validity, start: usize, count: usize)
+        requires room { vec_len self.old.flags + count ≤ vec_capacity self.old.flags }
+        requires inside { IsPartOfFlags start count (length other.now.flags.items) }
+        ensures { self.new.flags.items
+            ≡ self.old.flags.items ++ part_flags start count other.now.flags.items }
+    {
+        let extended = if other.flags.is_empty() {
+            self.flags.resize(self.flags.len() + count, true)
+        } else {
+            self.flags
+                .extend_from_slice(&other.flags.as_slice()[start..start + count])
+        };
+        let Ok(()) = extended else {
+            unreachable!();
+        };
     }
 
     /// The same flags.

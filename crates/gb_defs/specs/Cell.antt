@@ -9,7 +9,7 @@ use Rattle.std.specs.Str.Parse.{without_leading_plus, without_leading_sign, star
 use Rattle.std.specs.Int.{Width, w32, w64}
 use mir.Val.{bits, hbits}
 use Rattle.gb_defs.specs.Slot.{Slot, Nil, Num, Bytes}
-use Rattle.gb_defs.specs.ColumnType.{FlatType, Boolean, Unsigned, Signed, Decimal, Date, Time, Datetime, Duration, String, Binary, Categorical, ColumnType, Flat, ListOf, ArrayOf, StructOf}
+use Rattle.gb_defs.specs.ColumnType.{FlatType, Null, Boolean, Unsigned, Signed, Decimal, Date, Time, Datetime, Duration, String, Binary, Categorical, ColumnType, Flat, ListOf, ArrayOf, StructOf}
 use Rattle.gb_defs.specs.TypeWord.{scale_of}
 
 -- one decimal digit or more, and nothing else
@@ -104,6 +104,7 @@ cell_slot null_word t bs = if bytes_eq bs null_word then Some Nil else value_of_
 
 -- whether cells of the type are read today
 abbrev pub is_read_flat : FlatType → Bool
+is_read_flat Null = true
 is_read_flat Boolean = true
 is_read_flat (Unsigned w) = true
 is_read_flat (Signed w) = true

@@ -1,5 +1,5 @@
 -- What contracts see of a column and of a frame, and the facts that a column's flags state.
-use Rattle.std.specs.Prelude.{◌≡◌, ℕ, zero, suc, ◌≤◌, ◌<◌, List, [], ◌∷◌, map, Bool, true, false, length, refl, cond, Option, None, Some, ◌==◌, IsTrue}
+use Rattle.std.specs.Prelude.{◌≡◌, ℕ, zero, suc, ◌≤◌, ◌<◌, ℤ, List, [], ◌∷◌, map, replicate, Bool, true, false, not, length, refl, cond, Option, None, Some, ◌==◌, IsTrue}
 use Rattle.std.proofs.Common.{ap}
 use Rattle.std.specs.Str.{bytes_eq}
 use Rattle.std.specs.List.{list_any}
@@ -8,6 +8,7 @@ use Rattle.gb_defs.specs.Slot.{Slot, Num, is_nil, slot_at, slot_code, slot_eq}
 use Rattle.std.specs.Prelude.{pos}
 use Rattle.gb_defs.specs.ColumnType.{ColumnType, Flat, ListOf, ArrayOf, StructOf, Null, Categorical, Enum, type_code}
 use Rattle.gb_defs.specs.Order.{ByCode, below}
+use Rattle.gb_defs.specs.Slices.{shown, shown_chunks}
 
 pub data SortedFlag : Type 0 where
   Ascending : SortedFlag
@@ -44,6 +45,29 @@ fresh_column name dtype slots = record { name = name; dtype = dtype; slots = slo
 abbrev pub taken : List ℕ → ColumnValue → ColumnValue
 taken rows c = fresh_column c.name c.dtype (map (slot_at c.slots) rows)
 
+-- the column with the slots that a slice shows, and of its chunks what it shows. What is in order stays so
+abbrev pub sliced : ℤ → ℕ → ColumnValue → ColumnValue
+sliced offset len c = record c { slots = shown c.slots offset len; chunks = shown_chunks c.chunks offset len; all_used = false }
+
+-- the column in one chunk
+abbrev pub rechunked : ColumnValue → ColumnValue
+rechunked c = record c { chunks = length c.slots ∷ [] }
+
+-- the slot of a row so many times, in one chunk with no flag
+abbrev pub repeated : ℕ → ℕ → ColumnValue → ColumnValue
+repeated row len c = fresh_column c.name c.dtype (replicate len (slot_at c.slots row))
+
+-- ---- valid slots
+
+abbrev pub is_valid : Slot → Bool
+is_valid slot = not (is_nil slot)
+
+-- a place holds a slot, and every later place a null
+pub record IsLastValid (slots : List Slot) (place : ℕ) : Type 0 where
+  pub inside : place < length slots
+  pub valid : is_nil (slot_at slots place) ≡ false
+  pub later : (k : ℕ) → place < k → k < length slots → is_nil (slot_at slots k) ≡ true
+
 -- ---- flags
 
 -- a null is among the nulls of one end
@@ -71,6 +95,16 @@ abbrev pub IsFlagTrue : SortedFlag → ColumnType → List Slot → Type 0
 IsFlagTrue Ascending t slots = IsTrue (may_be_sorted t) × IsAscending t slots
 IsFlagTrue Descending t slots = IsTrue (may_be_sorted t) × IsDescending t slots
 IsFlagTrue NotSorted t slots = Unit {0}
+
+-- the flag that is found for a column: ascending where that is true, else descending where that is
+abbrev pub IsDetected : SortedFlag → ColumnValue → Type 0
+IsDetected Ascending c = IsFlagTrue Ascending c.dtype c.slots
+IsDetected Descending c = IsFlagTrue Descending c.dtype c.slots × ¬ IsFlagTrue Ascending c.dtype c.slots
+IsDetected NotSorted c = ¬ IsFlagTrue Ascending c.dtype c.slots × ¬ IsFlagTrue Descending c.dtype c.slots
+
+-- the column with this flag
+abbrev pub flagged : SortedFlag → ColumnValue → ColumnValue
+flagged flag c = record c { sorted = flag }
 
 abbrev pub categories_of : ColumnType → Option (List (List ℕ))
 categories_of (Flat (Categorical texts ordering)) = texts

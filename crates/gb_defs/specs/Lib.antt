@@ -2,6 +2,7 @@
 pub mod Slot
 pub mod ColumnType
 pub mod Order
+pub mod Slices
 pub mod Column
 pub mod Classes
 pub mod Fold

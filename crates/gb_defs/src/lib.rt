@@ -10,5 +10,6 @@ pub mod hashes;
 pub mod orders;
 pub mod paths;
 pub mod ranges;
+pub mod slices;
 pub mod slow;
 pub mod worked;

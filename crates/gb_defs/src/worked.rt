@@ -41,6 +41,8 @@ pub fn outcomes()
         ≡ Report (codes "k:str,v_sum:i32\nx,-2147483648\n") }
     ensures flag_keys { outcome sums_by_key (codes "k:bool,v:bool\ntrue,true\n,true\ntrue,true\n")
         ≡ Report (codes "k:bool,v_sum:u32\ntrue,2\n,1\n") }
+    ensures nulls_as_keys { outcome sums_by_key (codes "k:null,v:i64\n,1\n,5\n")
+        ≡ Report (codes "k:null,v_sum:i64\n,6\n") }
     ensures hundredths { outcome sums_by_key (codes "k:date,v:dec2\n-1,0.5\n-1,-.25\n")
         ≡ Report (codes "k:date,v_sum:dec2\n-1,0.25\n") }
     ensures null_is_a_group { outcome sums_by_key (codes "k,v:i64\n,5\n1,6\n,7\n")

@@ -5,4 +5,5 @@ pub mod KeyLemmas
 pub mod MemberLemmas
 pub mod NumberLemmas
 pub mod PartitionLemmas
+pub mod RunLemmas
 pub mod TupleLemmas

@@ -1,12 +1,13 @@
 -- Keys in one of their forms, and what they say of a column.
-use Rattle.std.specs.Prelude.{◌≡◌, ℕ, Bool, true, false, map}
+use Rattle.std.specs.Prelude.{◌≡◌, ℕ, Bool, true, false, map, replicate}
 use Rattle.std.specs.Int.{w64, w128}
 use Rattle.gb_defs.specs.Column.{ColumnValue}
 use Rattle.gb_defs.specs.Hash.{hash_width, seed_mix}
-use Rattle.gb_defs.specs.Path.{KeyKind, Numbers, ByteLists, kind_of}
+use Rattle.gb_defs.specs.Path.{KeyKind, NoValues, Numbers, ByteLists, kind_of}
 use Rattle.gb_defs.specs.Slot as slot
 use Rattle.gb_defs.specs.Rows.{Rows, StandsFor, rows_of_slots}
 use Rattle.gb_cols.specs.Keys.{bytes_slot, key_slot}
+use Rattle.gb_cols.specs.Null.{AreNulls}
 use Rattle.gb_paths.specs.declared.into_groups.Keys.{Keys}
 use Rattle.gb_paths.specs.declared.into_groups.Keys.TheVariants.{Words, Wide, Texts, Bytes}
 
@@ -28,6 +29,15 @@ key_kind (Words words) = Numbers
 key_kind (Wide words) = Numbers
 key_kind (Texts texts) = ByteLists
 key_kind (Bytes bytes) = ByteLists
+
+-- so many rows without a value
+abbrev pub null_rows : ℕ → Rows
+null_rows count = rows_of_slots w64 0 seed_mix (replicate count slot.Nil)
+
+-- a column of a type without values: every slot of it is null
+pub record HasNoValues (column : ColumnValue) : Type 0 where
+  pub kind : kind_of column.dtype ≡ NoValues
+  pub nulls : AreNulls column.slots
 
 -- keys stand for the slots of a column, under any seed
 pub record StandFor (column : ColumnValue) (keys : Keys) : Type 0 where

@@ -1,15 +1,15 @@
 //! The groups of a column's rows: the keys of its rows in one of a few forms, the path by its type and
-//! length, and the groups by them.
+//! length, and the groups by them. Rows of a type without values are one run.
 
-ghost use Rattle.std.specs.Prelude.{◌≡◌, ◌<◌, length, IfOk, IfErr};
+ghost use Rattle.std.specs.Prelude.{◌≡◌, ◌<◌, length, IfOk, IfErr, MatchOption};
 ghost use Rattle.std.specs.Thread.{IsSync};
 ghost use Rattle.gb_defs.specs.Groups.{HasRowNumbers, IsWellFormed};
-ghost use Rattle.gb_defs.specs.Path.{hashed_path, path_groups};
+ghost use Rattle.gb_defs.specs.Path.{hashed_path, path_groups, run_groups};
 ghost use Rattle.gb_cols.specs.PlSmallStr.{IsNoMemory};
 ghost use Rattle.gb_cols.specs.Pool.{partitions_of, seed_of, threshold_of, workers_of};
 ghost use Rattle.gb_groups.specs.GroupsType.{groups_of};
 ghost use Rattle.gb_series.specs.Series.{value_of};
-ghost use Rattle.gb_paths.specs.Keys.{StandFor, are_bytes, rows_of_keys};
+ghost use Rattle.gb_paths.specs.Keys.{HasNoValues, StandFor, are_bytes, null_rows, rows_of_keys};
 ghost use Rattle.gb_paths.specs.Tuples.{path_value, tuples_of};
 
 use crate::group_by::group_uncounted;
@@ -22,12 +22,15 @@ use gb_cols::device::Gate;
 use gb_cols::error::PolarsResult;
 use gb_cols::logical::{Logical, LogicalKind};
 use gb_cols::memory::FreeGate;
+use gb_cols::null::NullChunked;
 use gb_cols::nullable::Values;
+use gb_cols::nullable_idx::IdxSize;
 use gb_cols::numeric::{Native, PolarsNumericType};
 use gb_cols::pool::Pool;
 use gb_cols::primitive::NumberValues;
 use gb_cols::series_trait::SeriesTrait;
 use gb_cols::utf8::TextValues;
+use gb_groups::groups_slice::GroupsSlice;
 use gb_groups::groups_type::GroupsType;
 use gb_hash::key_rows::KeyRows;
 use gb_hash::list_rows::{ListRows, TextRows};
@@ -167,32 +170,40 @@ impl KeyValues for ByteValues<BinaryOffset> {
 
 /// A column whose rows have keys.
 pub trait KeyColumn: SeriesTrait {
-    /// The keys, by one pass over the chunks.
-    fn keys(&self) -> PolarsResult<Keys<'_>>
-        ensures ok { IfOk result (λ keys. StandFor (Self.value self.now) keys) }
+    /// The keys, by one pass over the chunks: none where the column's type has no values.
+    fn keys(&self) -> PolarsResult<Option<Keys<'_>>>
+        ensures ok { let column = Self.value self.now in
+            IfOk result (λ keys. MatchOption keys (HasNoValues column) (StandFor column)) }
         ensures err { IfErr result IsNoMemory };
 }
 
 impl<V: KeyValues> KeyColumn for ChunkedArray<V> {
-    fn keys(&self) -> PolarsResult<Keys<'_>> {
-        V::keys_of(self)
+    fn keys(&self) -> PolarsResult<Option<Keys<'_>>> {
+        Ok(Some(V::keys_of(self)?))
     }
 }
 
 impl<K: LogicalKind> KeyColumn for Logical<K> {
-    fn keys(&self) -> PolarsResult<Keys<'_>> {
+    fn keys(&self) -> PolarsResult<Option<Keys<'_>>> {
         // The call tells the column's type.
         let _ = self.kind();
         if <K::Physical as PolarsNumericType>::Native::is_wide() {
-            Ok(Keys::Wide(self.wide_words()?))
+            Ok(Some(Keys::Wide(self.wide_words()?)))
         } else {
-            Ok(Keys::Words(self.words()?))
+            Ok(Some(Keys::Words(self.words()?)))
         }
     }
 }
 
+impl KeyColumn for NullChunked {
+    fn keys(&self) -> PolarsResult<Option<Keys<'_>>> {
+        let _ = self.allocator();
+        Ok(None)
+    }
+}
+
 impl KeyColumn for Series {
-    fn keys(&self) -> PolarsResult<Keys<'_>> {
+    fn keys(&self) -> PolarsResult<Option<Keys<'_>>> {
         of_column!(self, column => column.keys())
     }
 }
@@ -238,9 +249,28 @@ pub fn group_column<T: Threads + Sync, C: KeyColumn, G: Gate + Sync>(
     ensures err { IfErr result IsNoMemory }
 {
     let alloc = column.allocator();
-    let keys = column.keys()?;
+    let Some(keys) = column.keys()? else {
+        return one_run(alloc, column.len());
+    };
     let path = choose_path(keys.are_bytes(), column.len(), multithreaded, pool);
     group_keys(rt, alloc, &keys, path, sorted, pool, gate)
+}
+
+// All rows as one run, where there are any.
+fn one_run(alloc: Global, rows: usize) -> PolarsResult<GroupsType>
+    requires few { HasRowNumbers rows }
+    ensures ok { IfOk result (λ g. groups_of g ≡ run_groups (null_rows rows)) }
+    ensures formed { IfOk result (λ g. IsWellFormed rows (groups_of g).pairs) }
+    ensures err { IfErr result IsNoMemory }
+{
+    let mut runs = Vec::new(alloc);
+    if rows > 0 {
+        runs.push([0, rows as IdxSize])?;
+    }
+    Ok(GroupsType::Slice {
+        groups: GroupsSlice::from_vec(runs),
+        rolling: false,
+    })
 }
 
 // The groups of rows by keys in any form. What a thread may be sent is known of a type with a name, and

@@ -14,18 +14,21 @@ use gb_cols::error::PolarsResult;
 use gb_cols::logical::{
     DateChunked, DatetimeChunked, DecimalChunked, DurationChunked, TimeChunked,
 };
+use gb_cols::null::NullChunked;
 use gb_cols::nullable_idx::IdxSize;
 use gb_cols::numeric::{
     Int8Chunked, Int16Chunked, Int32Chunked, Int64Chunked, Int128Chunked, UInt8Chunked,
     UInt16Chunked, UInt32Chunked, UInt64Chunked,
 };
 use gb_cols::series_trait::SeriesTrait;
+use gb_cols::slot_order::SlotOrder;
 use gb_cols::small_str::PlSmallStr;
 use std::alloc::{AllocError, Global};
 
 /// A named column of any type.
 #[derive(Drop)]
 pub enum Series {
+    Null(NullChunked),
     Boolean(BooleanChunked),
     UInt8(UInt8Chunked),
     UInt16(UInt16Chunked),
@@ -53,6 +56,7 @@ pub type Column = Series;
 macro_rules! of_column {
     ($series:expr, $column:ident => $call:expr) => {
         match $series {
+            $crate::series::Series::Null($column) => $call,
             $crate::series::Series::Boolean($column) => $call,
             $crate::series::Series::UInt8($column) => $call,
             $crate::series::Series::UInt16($column) => $call,
@@ -80,6 +84,7 @@ macro_rules! of_column {
 macro_rules! map_column {
     ($series:expr, $column:ident => $call:expr) => {
         match $series {
+            $crate::series::Series::Null($column) => $crate::series::Series::Null($call),
             $crate::series::Series::Boolean($column) => $crate::series::Series::Boolean($call),
             $crate::series::Series::UInt8($column) => $crate::series::Series::UInt8($call),
             $crate::series::Series::UInt16($column) => $crate::series::Series::UInt16($call),
@@ -107,6 +112,10 @@ macro_rules! map_column {
 macro_rules! map_sums {
     ($series:expr, $column:ident => $call:expr) => {
         match $series {
+            $crate::series::Series::Null($column) => match $call {
+                Some(sums) => Ok(Some($crate::series::Series::Null(sums))),
+                None => Ok(None),
+            },
             $crate::series::Series::Boolean($column) => match $call {
                 Some(sums) => Ok(Some($crate::series::Series::UInt32(sums))),
                 None => Ok(None),
@@ -192,7 +201,7 @@ impl Series {
         ensures { value_of result ≡ fresh_column (name_of name) (type_of dtype) [] }
     {
         match dtype {
-            DataType::Null => unreachable!(),
+            DataType::Null => Series::Null(NullChunked::new(alloc, name, 0)),
             DataType::Boolean => Series::Boolean(ChunkedArray::new(alloc, name)),
             DataType::UInt8 => Series::UInt8(ChunkedArray::new(alloc, name)),
             DataType::UInt16 => Series::UInt16(ChunkedArray::new(alloc, name)),
@@ -268,12 +277,36 @@ impl SeriesTrait for Series {
         of_column!(self, column => column.null_count())
     }
 
+    fn n_chunks(&self) -> usize {
+        of_column!(self, column => column.n_chunks())
+    }
+
+    fn chunk_lengths(&self) -> PolarsResult<Vec<usize>> {
+        of_column!(self, column => column.chunk_lengths())
+    }
+
+    fn first_non_null(&self) -> Option<usize> {
+        of_column!(self, column => column.first_non_null())
+    }
+
+    fn last_non_null(&self) -> Option<usize> {
+        of_column!(self, column => column.last_non_null())
+    }
+
     fn is_valid(&self, row: usize) -> bool {
         of_column!(self, column => column.is_valid(row))
     }
 
     fn is_sorted_flag(&self) -> IsSorted {
         of_column!(self, column => column.is_sorted_flag())
+    }
+
+    fn set_sorted_flag(&mut self, sorted: IsSorted) {
+        of_column!(self, column => column.set_sorted_flag(sorted))
+    }
+
+    fn order(&self) -> SlotOrder {
+        of_column!(self, column => column.order())
     }
 
     fn push_null(&mut self) -> PolarsResult<()> {
@@ -297,6 +330,22 @@ impl SeriesTrait for Series {
     fn take(&self, rows: &[IdxSize]) -> PolarsResult<Series> {
         Ok(map_column!(self, column => column.take(rows)?))
     }
+
+    fn slice(&self, offset: i64, len: usize) -> PolarsResult<Series> {
+        Ok(map_column!(self, column => column.slice(offset, len)?))
+    }
+
+    fn rechunk(&self) -> PolarsResult<Series> {
+        Ok(map_column!(self, column => column.rechunk()?))
+    }
+
+    fn try_clone(&self) -> PolarsResult<Series> {
+        Ok(map_column!(self, column => column.try_clone()?))
+    }
+
+    fn new_from_index(&self, i: usize, len: usize) -> PolarsResult<Series> {
+        Ok(map_column!(self, column => column.new_from_index(i, len)?))
+    }
 }
 
 /// What makes a column of any type.
@@ -308,6 +357,14 @@ pub trait IntoSeries {
 
     fn into_series(self) -> Series
         ensures { value_of result ≡ column self };
+}
+
+impl IntoSeries for NullChunked {
+    ghost column = { λ c. c };
+
+    fn into_series(self) -> Series {
+        Series::Null(self)
+    }
 }
 
 impl IntoSeries for UInt8Chunked {

@@ -96,3 +96,87 @@ fn a_null_more(rt: HostRuntime) -> Result<(), Fail> {
     assert!(rt; ends_in_null(&column));
     Ok(())
 }
+
+// A column of two values with a null more.
+fn two_and_null(alloc: Global) -> PolarsResult<Series> {
+    let mut column = numbers(alloc, "a", &[7, 8])?;
+    if column.len() == 2 {
+        column.push_null()?;
+    }
+    Ok(column)
+}
+
+// Whether its one chunk and the ends of its values are found.
+fn chunks_are_counted(column: &Series) -> PolarsResult<bool> {
+    let lengths = column.chunk_lengths()?;
+    Ok(
+        lengths.as_slice() == [3].as_slice()
+            && column.n_chunks() == 1
+            && column.has_nulls()
+            && column.first_non_null() == Some(0)
+            && column.last_non_null() == Some(1),
+    )
+}
+
+fn part_is_a_value(column: &Series) -> PolarsResult<bool> {
+    let part = column.slice(-2, 1)?;
+    Ok(part.len() == 1 && part.null_count() == 0)
+}
+
+fn copies_are_as_long(column: &Series) -> PolarsResult<bool> {
+    let whole = column.rechunk()?.len();
+    Ok(whole == 3 && column.try_clone()?.len() == 3)
+}
+
+fn null_is_repeated(column: &Series) -> PolarsResult<bool> {
+    if column.len() != 3 {
+        return Ok(false);
+    }
+    Ok(column.new_from_index(2, 4)?.null_count() == 4)
+}
+
+fn parts_and_copies_are_right(column: &Series) -> PolarsResult<bool> {
+    Ok(
+        chunks_are_counted(column)?
+            && part_is_a_value(column)?
+            && copies_are_as_long(column)?
+            && null_is_repeated(column)?,
+    )
+}
+
+fn parts_of_two_and_null(alloc: Global) -> PolarsResult<bool> {
+    let column = two_and_null(alloc)?;
+    parts_and_copies_are_right(&column)
+}
+
+#[test]
+fn parts_and_copies(rt: HostRuntime) -> Result<(), Fail> {
+    assert!(rt; parts_of_two_and_null(rt.alloc())?);
+    Ok(())
+}
+
+// Whether the column ascends, and takes the flag for it.
+fn takes_ascending(column: &mut Series) -> bool {
+    if !column.check_sorted(IsSorted::Ascending) {
+        return false;
+    }
+    column.set_sorted_flag(IsSorted::Ascending);
+    column.is_sorted_ascending_flag()
+}
+
+fn ascending_is_taken(alloc: Global) -> PolarsResult<bool> {
+    let mut column = numbers(alloc, "a", &[7, 8])?;
+    Ok(takes_ascending(&mut column))
+}
+
+fn is_detected(alloc: Global, values: &[i64], found: IsSorted) -> PolarsResult<bool> {
+    Ok(numbers(alloc, "a", values)?.detect_sorted() == found)
+}
+
+#[test]
+fn orders(rt: HostRuntime) -> Result<(), Fail> {
+    assert!(rt; ascending_is_taken(rt.alloc())?);
+    assert!(rt; is_detected(rt.alloc(), &[8, 7], IsSorted::Descending)?);
+    assert!(rt; is_detected(rt.alloc(), &[7, 8, 7], IsSorted::Not)?);
+    Ok(())
+}

@@ -217,3 +217,43 @@ fn each_flat_type(rt: HostRuntime) -> Result<(), Fail> {
     }
     Ok(())
 }
+
+/// Words, an input, the code that they end with and what they write: of columns of nothing but nulls.
+const NULL_RUNS: [(&str, &str, u8, &str); 6] = [
+    (
+        "group --by n --agg sum:v",
+        "n:null,v:i64\n,1\n,5\n",
+        0,
+        "n:null,v_sum:i64\n,6\n",
+    ),
+    (
+        "group --by n --agg sum:v --workers 4 --threshold 1",
+        "n:null,v:i64\n,1\n,5\n",
+        0,
+        "n:null,v_sum:i64\n,6\n",
+    ),
+    (
+        "group --by n --agg sum:v",
+        "n:null,v:i64\n",
+        0,
+        "n:null,v_sum:i64\n",
+    ),
+    (
+        "group --by k --agg count:n",
+        "k,n:null\nx,\nx,\n",
+        0,
+        "k:str,n_count:u32\nx,2\n",
+    ),
+    ("group --by k --agg sum:n", "k,n:null\nx,\n", 4, ""),
+    ("group --by k", "k,n:null\nx,1\n", 3, ""),
+];
+
+#[test]
+fn nothing_but_nulls(rt: HostRuntime) -> Result<(), Fail> {
+    for (words, input, code, wanted) in NULL_RUNS {
+        let (status, sink) = run_of(&rt, rt.alloc(), words, input)?;
+        assert_eq!(rt; status.code(), code);
+        assert_eq!(rt; sink.bytes(), wanted.as_bytes());
+    }
+    Ok(())
+}

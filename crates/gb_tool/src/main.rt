@@ -3,6 +3,8 @@
 #![tactic(auto)]
 
 #[cfg(test)]
+mod all_words_tests;
+#[cfg(test)]
 mod flat_tests;
 mod folds;
 #[cfg(test)]

@@ -73,7 +73,7 @@ pub fn dtype_of(word: &str) -> Option<DataType>
     ensures column { IfSome result HasColumn }
 {
     match word {
-        "null" => None,
+        "null" => Some(DataType::Null),
         "bool" => Some(DataType::Boolean),
         "u8" => Some(DataType::UInt8),
         "u16" => Some(DataType::UInt16),

@@ -36,6 +36,8 @@ impl Native for i32 {
 
     ghost equal_by_number = { Decides-int_eq };
 
+    ghost ordered_by_number = { λ a b. refl };
+
     ghost printed = { λ n. refl };
 
     fn zero() -> i32 {
@@ -62,7 +64,7 @@ impl Native for i32 {
         i128::from(self).cast_unsigned()
     }
 
-    #[inline]
+    #[inline(always)]
     fn from_cell(cell: &[u8]) -> Option<i32> {
         i32::try_from(signed_number(cell)?).ok()
     }

@@ -8,7 +8,7 @@ impl Native for u128 {
     ghost use Rattle.std.specs.Int.{w128};
     ghost use Rattle.std.proofs.Common.{inr};
     ghost use Rattle.gb_defs.specs.ColumnType.{Unsigned};
-    ghost use Rattle.gb_cols.specs.Native.{Decides-pos};
+    ghost use Rattle.gb_cols.specs.Native.{Decides-pos, cmp-pos};
 
     ghost number = { λ n. pos n };
 
@@ -19,6 +19,8 @@ impl Native for u128 {
     ghost whole = { inr refl };
 
     ghost equal_by_number = { Decides-pos };
+
+    ghost ordered_by_number = { cmp-pos };
 
     ghost printed = { λ n. refl };
 
@@ -46,7 +48,7 @@ impl Native for u128 {
         self
     }
 
-    #[inline]
+    #[inline(always)]
     fn from_cell(cell: &[u8]) -> Option<u128> {
         unsigned_wide(cell)
     }

@@ -24,7 +24,7 @@ impl Native for u16 {
     ghost use Rattle.std.specs.Int.{w16};
     ghost use Rattle.std.proofs.Common.{inr};
     ghost use Rattle.gb_defs.specs.ColumnType.{Unsigned};
-    ghost use Rattle.gb_cols.specs.Native.{Decides-pos};
+    ghost use Rattle.gb_cols.specs.Native.{Decides-pos, cmp-pos};
 
     ghost number = { λ n. pos n };
 
@@ -35,6 +35,8 @@ impl Native for u16 {
     ghost whole = { inr refl };
 
     ghost equal_by_number = { Decides-pos };
+
+    ghost ordered_by_number = { cmp-pos };
 
     ghost printed = { λ n. refl };
 
@@ -62,7 +64,7 @@ impl Native for u16 {
         u128::from(self)
     }
 
-    #[inline]
+    #[inline(always)]
     fn from_cell(cell: &[u8]) -> Option<u16> {
         u16::try_from(unsigned_number(cell)?).ok()
     }

@@ -16,6 +16,7 @@ use gb_cols::boolean::BooleanChunked;
 use gb_cols::chunked::{ChunkedArray, StringChunked};
 use gb_cols::error::PolarsResult;
 use gb_cols::logical::{Logical, LogicalKind};
+use gb_cols::null::NullChunked;
 use gb_cols::numeric::{PolarsNumericType, UInt32Chunked};
 use gb_cols::primitive::NumberValues;
 use gb_cols::series_trait::SeriesTrait;
@@ -95,13 +96,24 @@ impl<K: LogicalKind> GroupSums for Logical<K> {
     }
 }
 
+impl GroupSums for NullChunked {
+    type Sums = NullChunked;
+
+    ghost column = { λ c. c };
+
+    fn group_sums(&self, _name: PlSmallStr, _groups: &GroupsType) -> PolarsResult<Option<Self>> {
+        // The call tells the column's type.
+        let _ = self.allocator();
+        Ok(None)
+    }
+}
+
 impl GroupSums for StringChunked {
     type Sums = StringChunked;
 
     ghost column = { λ c. c };
 
     fn group_sums(&self, _name: PlSmallStr, _groups: &GroupsType) -> PolarsResult<Option<Self>> {
-        // The call tells the column's type.
         let _ = self.allocator();
         Ok(None)
     }

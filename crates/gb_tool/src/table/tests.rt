@@ -53,7 +53,7 @@ fn tables_and_faults(rt: HostRuntime) -> Result<(), Fail> {
         (b"k,\xFF\n", "", Err(TableFault::BadCell(0, 2))),
         (b"\xFF,k,k\n", "", Err(TableFault::BadCell(0, 1))),
         (b"k,v:cat\n", "", Err(TableFault::BadCell(0, 2))),
-        (b"k,v:null\n", "", Err(TableFault::BadCell(0, 2))),
+        (b"k,v:lexcat\n", "", Err(TableFault::BadCell(0, 2))),
         (b"k,k,v:i32\n", "", Err(TableFault::SameName(2))),
         (b"\r\n\"a\",b,a\n", "", Err(TableFault::SameName(3))),
         // Records below it.

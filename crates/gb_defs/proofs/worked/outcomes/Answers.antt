@@ -33,6 +33,10 @@ pub returns-clause-flag_keys : goal.returns-clause-flag_keys
 unfolding outcome grouped_by table records_from next_record strip_bom head_of type_words cell_slot is_utf8 fault answer firsts is_first class fold_picked frame_text int_wrap escaped fields_text is_blank chars encode digits
 returns-clause-flag_keys c = refl
 
+pub returns-clause-nulls_as_keys : goal.returns-clause-nulls_as_keys
+unfolding outcome grouped_by table records_from next_record strip_bom head_of type_words cell_slot is_utf8 fault answer firsts is_first class fold_picked frame_text int_wrap escaped fields_text is_blank chars encode digits
+returns-clause-nulls_as_keys c = refl
+
 pub returns-clause-hundredths : goal.returns-clause-hundredths
 unfolding outcome grouped_by table records_from next_record strip_bom head_of type_words cell_slot is_utf8 fault answer firsts is_first class fold_picked frame_text int_wrap escaped fields_text is_blank chars encode digits
 returns-clause-hundredths c = refl

@@ -2,26 +2,28 @@ use Rattle.std.proofs.Common.{◌≡◌, ℕ, Bool, ◌∙◌, ap, length}
 use Rattle.std.proofs.lemmas.Result.{IfOk-weaker}
 use Rattle.gb_defs.specs.Path.{Path, hashed_path}
 use Rattle.gb_cols.specs.Pool.{seed_of, threshold_of, workers_of}
-use Rattle.gb_paths.specs.Keys.{are_bytes}
+use Rattle.gb_paths.specs.Keys.{StandFor, are_bytes}
 use Rattle.gb_paths.specs.Tuples.{path_value}
 use Rattle.gb_paths.proofs.TupleLemmas.{tuples_stand}
 use Rattle.gb_paths.proofs.into_groups.group_column.Goals as goal
 
 pub group_keys-requires-clause-few : goal.group_keys-requires-clause-few
-group_keys-requires-clause-few g c κs outlives = rw (c.in_ok-keys.ensures.ok.rows (seed_of c.args.pool.now)).many c.requires.few
+group_keys-requires-clause-few g c κs outlives =
+    let stand : StandFor (g.C.SeriesTrait.value c.args.column.now) c.in-Some.keys = rw c.in-Some.is at c.in_ok-keys.ensures.ok in
+    rw (stand.rows (seed_of c.args.pool.now)).many c.requires.few
 
 pub returns-clause-ok : goal.returns-clause-ok
 returns-clause-ok g c =
     let column = g.C.SeriesTrait.value c.args.column.now in
     let pool = c.args.pool.now in
-    let keys = c.in_ok-keys.keys in
+    let keys = c.in-Some.keys in
+    let stand : StandFor column keys = rw c.in-Some.is at c.in_ok-keys.ensures.ok in
     let way : Bool → ℕ → Path = λ bytes rows. hashed_path bytes rows c.args.multithreaded (workers_of pool) (threshold_of pool) in
     let chosen : path_value c.choose_path-path.result ≡ way (are_bytes keys) (length column.slots) =
-    c.choose_path-path.ensures ∙ ap (λ bytes. way bytes c.len.result) c.are_bytes.ensures ∙ ap (way (are_bytes keys)) c.len.ensures.value in
-    IfOk-weaker c.group_keys.result _ _
-    (λ groups h. h ∙ tuples_stand column keys c.args.multithreaded c.args.sorted pool c.choose_path-path.result c.in_ok-keys.ensures.ok chosen)
-    c.group_keys.ensures.ok
+    c.choose_path-path.ensures ∙ ap (λ bytes. way bytes c.len-2.result) c.are_bytes.ensures ∙ ap (way (are_bytes keys)) c.len-2.ensures.value in
+    IfOk-weaker c.group_keys.result _ _ (λ groups h. h ∙ tuples_stand column keys c.args.multithreaded c.args.sorted pool c.choose_path-path.result stand chosen) c.group_keys.ensures.ok
 
 pub returns-clause-formed : goal.returns-clause-formed
 returns-clause-formed g c =
-    IfOk-weaker c.group_keys.result _ _ (λ groups h. rw (c.in_ok-keys.ensures.ok.rows (seed_of c.args.pool.now)).many at h) c.group_keys.ensures.formed
+    let stand : StandFor (g.C.SeriesTrait.value c.args.column.now) c.in-Some.keys = rw c.in-Some.is at c.in_ok-keys.ensures.ok in
+    IfOk-weaker c.group_keys.result _ _ (λ groups h. rw (stand.rows (seed_of c.args.pool.now)).many at h) c.group_keys.ensures.formed

@@ -1,7 +1,7 @@
-use Rattle.std.proofs.Common.{◌∙◌, ap, sym, map, take, ◌++◌, ◌∷◌, [], length, ◌<◌, ◌^◌, rules}
-use Rattle.std.proofs.lemmas.List.{map_more, take_all, length-map, append-nil}
+use Rattle.std.proofs.Common.{◌∙◌, ap, sym, map, take, ◌++◌, ◌∷◌, []}
+use Rattle.std.proofs.lemmas.List.{map_more, take_all}
 use Rattle.gb_defs.specs.Slot.{Slot, slot_at}
-use Rattle.gb_cols.proofs.ChunkedLemmas.{view_one}
+use Rattle.gb_cols.proofs.ChunkedLemmas.{fresh_alike}
 use Rattle.gb_cols.proofs.chunked.ChunkedArraySeriesTrait.take.Goals as goal
 
 pub loop-row-preserved : goal.loop-row-preserved
@@ -12,16 +12,9 @@ loop-row-preserved g c =
     c.in_ok-push_from.ensures.ok ∙ ap (λ ss. ss ++ slot_at c.locate-place.result.0.now c.locate-place.result.1 ∷ []) c.loop-row.invariant
     ∙ ap (λ (s : Slot). map pick (take at rows) ++ s ∷ []) c.locate-place.ensures.slot ∙ sym (map_more pick rows at 0 c.loop-row-test.true)
 
-pub invariant_of-result : goal.invariant_of-result
-invariant_of-result g c =
-    let whole = c.loop-row.invariant ∙ ap (map (slot_at c.args.self.now.slots)) (take_all c.loop-row.row-index c.args.rows.now c.loop-row-test.false) in
-    let few : length c.args.rows.now < 2 ^ 63 = search rules in
-    rw (c.new.ensures.items, append-nil c.loop-row.taken, whole)
-    (record { flag_true = tt; small = rw (length-map c.args.rows.now (slot_at c.args.self.now.slots)) few })
-
 pub returns-clause-ok : goal.returns-clause-ok
 returns-clause-ok g c =
     let whole = c.loop-row.invariant ∙ ap (map (slot_at c.args.self.now.slots)) (take_all c.loop-row.row-index c.args.rows.now c.loop-row-test.false) in
-    let names = c.in_ok-try_clone.ensures.ok ∙ ap (λ v. v.name) c.self.view_is in
+    let names = c.in_ok-name.ensures.ok ∙ ap (λ v. v.name) c.self.view_is in
     let types = ap (λ v. v.dtype) c.self.view_is in
-    rw (c.new.ensures.items, names, types) (view_one c.args.self.now.name c.args.self.now.dtype c.loop-row.taken _ whole)
+    c.from_chunk.ensures ∙ fresh_alike names types whole

@@ -1,4 +1,4 @@
-use Rattle.std.proofs.Common.{◌+◌, arith, ap, length, sym, ◌∙◌, ◌++◌, ◌∷◌, [], subst}
+use Rattle.std.proofs.Common.{arith, ap, length, sym, ◌∙◌, ◌++◌, ◌∷◌, [], subst}
 use Rattle.std.specs.List.{All, sum}
 use Rattle.std.proofs.lemmas.List.Elements.{All-replicate}
 use Rattle.gb_defs.specs.Column.{ColumnValue}

@@ -1,0 +1,14 @@
+use Rattle.std.proofs.Common.{sym, subst}
+use Rattle.gb_defs.specs.Column.{ColumnValue, IsFlagTrue}
+use Rattle.gb_defs.specs.ColumnType.{ColumnType}
+use Rattle.gb_cols.specs.Sorted.{flag_of}
+use Rattle.gb_cols.proofs.LogicalLemmas.{flag_back}
+use Rattle.gb_cols.proofs.logical.LogicalSeriesTrait.set_sorted_flag.Goals as goal
+
+pub set_sorted_flag-requires : goal.set_sorted_flag-requires
+set_sorted_flag-requires g c =
+    let slots = c.self.inside.physical.slots in
+    let flag = flag_of c.args.sorted in
+    let asked = subst (λ (v : ColumnValue). IsFlagTrue flag v.dtype v.slots) (sym c.self.view_is) c.requires in
+    let stored = flag_back _ _ (g.met.K.LogicalKind.stands c.self.inside.kind) _ g.met.K.Physical.Native.Native.whole flag slots asked in
+    subst (λ (t : ColumnType). IsFlagTrue flag t slots) (sym c.self.invariant) stored
