@@ -69,7 +69,7 @@ def mlr(table):
 
 
 def sqlite3(table):
-    types = {"key": "text" if table.case.key_type == "str" else "integer", "day": "text", "city": "text"}
+    types = {"key": "integer" if table.case.key_type in ("i64", "date") else "text", "day": "text", "city": "text"}
     columns = ", ".join(f"{name} {types.get(name, 'integer')}" for name in COLUMNS)
     query = "select key, coalesce(sum(nullif(amount, '')), 0), count(*) from sales group by key"
     load = [f"create table sales({columns})", f".import --csv --skip 1 '{table.path}' sales"]

@@ -19,6 +19,16 @@ AMOUNTS = [str(amount) for amount in range(-20_000, 80_000)] + [""] * 3_000
 QUANTITIES = [str(quantity) for quantity in range(1, 25)]
 
 
+SPELLINGS = {
+    "str": lambda number: f"C{number:06d}",
+    "cat": lambda number: f"C{number:06d}",
+    "i64": lambda number: str(number * 7919 - 100_000),
+    "date": lambda number: str(number - 20_000),
+    "dec2": lambda number: f"{number * 7919 - 100_000}.{number % 100:02d}",
+    "bool": lambda number: "true" if number % 2 else "false",
+}
+
+
 @dataclass(frozen=True)
 class Case:
     """A kind of table. Its `many` groups are one for each ten rows."""
@@ -34,7 +44,7 @@ class Case:
 
     def spell(self, number):
         """The key of a group."""
-        return f"C{number:06d}" if self.key_type == "str" else str(number * 7919 - 100_000)
+        return SPELLINGS[self.key_type](number)
 
 
 CASES = [
@@ -43,6 +53,10 @@ CASES = [
     Case("int-few", "numbers, few groups", "i64", many=False),
     Case("int-many", "numbers, many groups", "i64", many=True),
     Case("sorted", "sorted numbers", "i64", many=True, in_order=True),
+    Case("decimals", "decimals, many groups", "dec2", many=True),
+    Case("dates", "dates, many groups", "date", many=True),
+    Case("flags", "booleans", "bool", many=False),
+    Case("categories", "categories, few groups", "cat", many=False),
 ]
 
 

@@ -36,11 +36,19 @@ fn write_key(key: &Cell, request: &Request, output: &mut impl Write) -> io::Resu
     match key {
         Cell::Whole(number) => write!(output, "{number}"),
         Cell::Text(text) => write_text(text, output),
+        Cell::Flag(flag) => write!(output, "{flag}"),
+        Cell::Hundredths(number) => write_hundredths(*number, output),
         Cell::Null if request.null_word.is_empty() && request.aggregates.is_empty() => {
             output.write_all(b"\"\"")
         }
         Cell::Null => write_text(&request.null_word, output),
     }
+}
+
+fn write_hundredths(number: i128, output: &mut impl Write) -> io::Result<()> {
+    let sign = if number < 0 { "-" } else { "" };
+    let size = number.unsigned_abs();
+    write!(output, "{sign}{}.{:02}", size / 100, size % 100)
 }
 
 /// Writes a field, in quotes where it would be read otherwise without them.

@@ -1,4 +1,5 @@
-//! Typed columns and their cells: texts and whole numbers, as no other type is read by gb_tool today.
+//! Typed columns and their cells, of the types that the benchmark has: a word of another type is a part of
+//! the column's name here.
 
 use std::borrow::Cow;
 
@@ -10,7 +11,11 @@ const OTHER_LENGTH: Fault = Fault::Table("a record has another number of fields 
 #[derive(Clone, Copy, Debug, PartialEq, Eq)]
 pub enum ColumnType {
     Text,
+    Category,
     Whole,
+    Date,
+    Boolean,
+    Hundredths,
 }
 
 #[derive(Debug)]
@@ -24,25 +29,68 @@ pub enum Cell<'a> {
     Null,
     Text(Cow<'a, str>),
     Whole(i64),
+    Flag(bool),
+    Hundredths(i128),
 }
 
 impl ColumnType {
+    const ALL: [ColumnType; 6] = [
+        ColumnType::Text,
+        ColumnType::Category,
+        ColumnType::Whole,
+        ColumnType::Date,
+        ColumnType::Boolean,
+        ColumnType::Hundredths,
+    ];
+
     pub fn word(self) -> &'static str {
         match self {
             ColumnType::Text => "str",
+            ColumnType::Category => "cat",
             ColumnType::Whole => "i64",
+            ColumnType::Date => "date",
+            ColumnType::Boolean => "bool",
+            ColumnType::Hundredths => "dec2",
         }
     }
+
+    fn of_word(word: &str) -> Option<ColumnType> {
+        Self::ALL.into_iter().find(|known| known.word() == word)
+    }
+}
+
+/// A number with at most two digits behind its point, in hundredths.
+fn hundredths(field: &str) -> Option<i128> {
+    let digits = field.strip_prefix(['-', '+']).unwrap_or(field);
+    let (whole, part) = digits.split_once('.').unwrap_or((digits, ""));
+    if whole.len() + part.len() == 0 || part.len() > 2 {
+        return None;
+    }
+    let mut number: i128 = 0;
+    for byte in whole.bytes().chain(part.bytes()) {
+        if !byte.is_ascii_digit() {
+            return None;
+        }
+        number = number
+            .checked_mul(10)?
+            .checked_add(i128::from(byte - b'0'))?;
+    }
+    for _ in part.len()..2 {
+        number = number.checked_mul(10)?;
+    }
+    Some(if field.starts_with('-') {
+        -number
+    } else {
+        number
+    })
 }
 
 impl Column {
     /// A header field is a name, or a name, a colon and the word of a type.
     fn from_field(field: &str) -> Column {
-        let (name, column_type) = match field.rsplit_once(':') {
-            Some((name, "i64")) => (name, ColumnType::Whole),
-            Some((name, "str")) => (name, ColumnType::Text),
-            _ => (field, ColumnType::Text),
-        };
+        let cut = field.rsplit_once(':');
+        let typed = cut.and_then(|(name, word)| Some((name, ColumnType::of_word(word)?)));
+        let (name, column_type) = typed.unwrap_or((field, ColumnType::Text));
         Column {
             name: name.to_string(),
             column_type,
@@ -53,13 +101,16 @@ impl Column {
         if field == null_word {
             return Ok(Cell::Null);
         }
-        match self.column_type {
-            ColumnType::Text => Ok(Cell::Text(field)),
-            ColumnType::Whole => match field.parse() {
-                Ok(number) => Ok(Cell::Whole(number)),
-                Err(_) => Err(Fault::Table("a cell is no whole number of 64 bits")),
-            },
-        }
+        let cell = match self.column_type {
+            ColumnType::Text | ColumnType::Category => Some(Cell::Text(field)),
+            ColumnType::Whole => field.parse().ok().map(Cell::Whole),
+            ColumnType::Date => field.parse().ok().map(|day: i32| Cell::Whole(day.into())),
+            ColumnType::Boolean => field.parse().ok().map(Cell::Flag),
+            ColumnType::Hundredths => hundredths(&field).map(Cell::Hundredths),
+        };
+        cell.ok_or(Fault::Table(
+            "a cell does not read by the type of its column",
+        ))
     }
 }
 

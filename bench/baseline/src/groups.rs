@@ -14,6 +14,7 @@ type Places<Key> = HashMap<Key, usize, BuildHasherDefault<FoldHasher>>;
 
 pub struct Groups {
     key_column: usize,
+    key_type: ColumnType,
     keys: Keys,
     null_place: Option<usize>,
     count: usize,
@@ -26,6 +27,8 @@ pub struct Groups {
 enum Keys {
     Texts(Places<Box<str>>),
     Wholes(Places<i64>),
+    Flags(Places<bool>),
+    Hundredths(Places<i128>),
 }
 
 /// What one aggregate does with a row.
@@ -49,10 +52,7 @@ impl Groups {
     }
 
     pub fn key_type(&self) -> ColumnType {
-        match self.keys {
-            Keys::Texts(_) => ColumnType::Text,
-            Keys::Wholes(_) => ColumnType::Whole,
-        }
+        self.key_type
     }
 
     /// The key of each group.
@@ -60,14 +60,12 @@ impl Groups {
         let mut ordered = vec![Cell::Null; self.count];
         match &self.keys {
             Keys::Texts(places) => {
-                for (text, &place) in places {
-                    ordered[place] = Cell::Text(Cow::Borrowed(text));
-                }
+                put(places, &mut ordered, |text| Cell::Text(Cow::Borrowed(text)))
             }
-            Keys::Wholes(places) => {
-                for (&number, &place) in places {
-                    ordered[place] = Cell::Whole(number);
-                }
+            Keys::Wholes(places) => put(places, &mut ordered, |&number| Cell::Whole(number)),
+            Keys::Flags(places) => put(places, &mut ordered, |&flag| Cell::Flag(flag)),
+            Keys::Hundredths(places) => {
+                put(places, &mut ordered, |&number| Cell::Hundredths(number))
             }
         }
         ordered
@@ -86,10 +84,8 @@ impl Groups {
         let folds = aggregates.map(|aggregate| Fold::new(columns, aggregate));
         Ok(Groups {
             key_column,
-            keys: match columns[key_column].column_type {
-                ColumnType::Text => Keys::Texts(Places::default()),
-                ColumnType::Whole => Keys::Wholes(Places::default()),
-            },
+            key_type: columns[key_column].column_type,
+            keys: Keys::of_type(columns[key_column].column_type),
             null_place: None,
             count: 0,
             folds: folds.collect::<Result<_, _>>()?,
@@ -117,6 +113,10 @@ impl Groups {
                 }
             },
             (Keys::Wholes(places), &Cell::Whole(number)) => *places.entry(number).or_insert(next),
+            (Keys::Flags(places), &Cell::Flag(flag)) => *places.entry(flag).or_insert(next),
+            (Keys::Hundredths(places), &Cell::Hundredths(number)) => {
+                *places.entry(number).or_insert(next)
+            }
             _ => *self.null_place.get_or_insert(next),
         };
         if place == next {
@@ -127,12 +127,34 @@ impl Groups {
     }
 }
 
+impl Keys {
+    fn of_type(column_type: ColumnType) -> Keys {
+        match column_type {
+            ColumnType::Text | ColumnType::Category => Keys::Texts(Places::default()),
+            ColumnType::Whole | ColumnType::Date => Keys::Wholes(Places::default()),
+            ColumnType::Boolean => Keys::Flags(Places::default()),
+            ColumnType::Hundredths => Keys::Hundredths(Places::default()),
+        }
+    }
+}
+
+/// Puts each key as a cell at its place.
+fn put<'a, Key>(
+    places: &'a Places<Key>,
+    ordered: &mut [Cell<'a>],
+    cell: impl Fn(&'a Key) -> Cell<'a>,
+) {
+    for (key, &place) in places {
+        ordered[place] = cell(key);
+    }
+}
+
 impl Fold {
     fn new(columns: &[Column], aggregate: &Aggregate) -> Result<Fold, Fault> {
         let column = position(columns, &aggregate.column)?;
         match (aggregate.method, columns[column].column_type) {
-            (Method::Sum, ColumnType::Text) => Err(Fault::Group("texts have no sum")),
             (Method::Sum, ColumnType::Whole) => Ok(Fold::Sum { column }),
+            (Method::Sum, _) => Err(Fault::Group("only whole numbers are summed here")),
             (Method::Count, _) => Ok(Fold::Count),
         }
     }

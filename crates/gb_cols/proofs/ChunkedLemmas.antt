@@ -4,7 +4,7 @@ use Rattle.std.specs.List.{All, count_by, flat_map, sum}
 use Rattle.std.proofs.lemmas.List.Concat.{length-flat_map}
 use Rattle.std.proofs.lemmas.List.Elements.{All-append}
 use Rattle.std.proofs.lemmas.List.Sums.{count_by-le-length, sum-map, sum_by-append}
-use Rattle.std.proofs.lemmas.List.{append-nil, append_assoc, length-append, length_push, drop_more, take_more, take-append-drop, take_all}
+use Rattle.std.proofs.lemmas.List.{append-nil, append_assoc, get_or-append-add, get_or_append_left, length-append, length_push, drop_more, take_more, take-append-drop, take_all}
 use Rattle.std.proofs.lemmas.Grind.{flat_map-append}
 use Rattle.gb_defs.specs.Slot.{Slot, is_nil}
 use Rattle.gb_defs.specs.ColumnType.{ColumnType}
@@ -120,6 +120,22 @@ each_more P earlier a i lt read front here =
 pub each_all : (P : Slot → Type 0) (earlier : List (List Slot)) (last : List Slot) (i : ℕ) → length earlier ≤ i → All P (front_slots earlier i) → All P last → All P (all_slots earlier last)
 each_all P earlier last i le front here =
     subst (λ (ss : List Slot). All P ss) (front_all earlier last i le) (All-append P (front_slots earlier i) last front here)
+
+-- what holds of all slots holds of those of one chunk
+pub each_one : (P : Slot → Type 0) (earlier : List (List Slot)) (last a : List Slot) (i : ℕ) → i < length earlier → a ≡ get_or earlier i a → All P (all_slots earlier last) → All P a
+each_one P earlier last a i lt read all =
+    let front = front_slots earlier i in
+    let rest = from_chunk earlier last (i + 1) in
+    let around = subst (λ (ss : List Slot). All P ss) (slots_around earlier last a i lt read) all in
+    λ k d inside.
+    subst (λ (s : Slot). P s) (get_or-append-add front (a ++ rest) k d ∙ get_or_append_left a rest d k inside)
+    (around (length front + k) d (omega (arith, inside, length-append front (a ++ rest), length-append a rest)))
+
+pub each_last : (P : Slot → Type 0) (earlier : List (List Slot)) (last : List Slot) → All P (all_slots earlier last) → All P last
+each_last P earlier last all =
+    let front = flat_map (λ chunk. chunk) earlier in
+    let whole = subst (λ (ss : List Slot). All P ss) (all_slots_is earlier last) all in
+    λ k d inside. subst (λ (s : Slot). P s) (get_or-append-add front last k d) (whole (length front + k) d (omega (arith, inside, length-append front last)))
 
 -- ---- nulls
 

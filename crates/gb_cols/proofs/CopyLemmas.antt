@@ -6,7 +6,7 @@ use Rattle.gb_defs.specs.Slot.{Slot}
 use Rattle.gb_defs.specs.ColumnType.{ColumnType}
 use Rattle.gb_defs.specs.Column.{ColumnValue, IsFlagTrue, SortedFlag, rechunked, sliced}
 use Rattle.gb_defs.specs.Slices.{between, or_one, slice_end, slice_start}
-use Rattle.gb_cols.specs.Array.{filled_part}
+use Rattle.gb_values.specs.Array.{filled_part}
 use Rattle.gb_cols.specs.Column.{IsSmallColumn, column_of}
 use Rattle.gb_cols.proofs.OrderLemmas.{flag_kept}
 use Rattle.gb_cols.proofs.SliceLemmas.{length-between, parts, shown_lengths, shown_parts, shown_slots}

@@ -9,7 +9,7 @@ use Rattle.std.proofs.lemmas.List.Sums.{sum-map}
 use Rattle.std.proofs.lemmas.Grind.{flat_map-append}
 use Rattle.gb_defs.specs.Slot.{Slot}
 use Rattle.gb_defs.specs.Slices.{between, or_one, places_in, shown_chunks, slice_end, slice_start}
-use Rattle.gb_cols.specs.Array.{filled_part}
+use Rattle.gb_values.specs.Array.{filled_part}
 
 -- ---- the front of two lists, and what is left of them
 

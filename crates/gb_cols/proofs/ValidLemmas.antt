@@ -8,7 +8,8 @@ use Rattle.std.proofs.lemmas.List.Elements.{All-append, All-get_or}
 use Rattle.std.proofs.lemmas.List.Sums.{position_or_len_is}
 use Rattle.gb_defs.specs.Column.{IsLastValid, is_valid}
 use Rattle.gb_defs.specs.Slot.{Slot, Nil, is_nil, slot_at}
-use Rattle.gb_cols.specs.Column.{IsFirstValid, IsNull, later_place}
+use Rattle.gb_cols.specs.Column.{later_place}
+use Rattle.gb_values.specs.Valid.{IsFirstValid, IsNull}
 
 null_at : (slots : List Slot) (k : ℕ) → All IsNull slots → k < length slots → is_nil (slot_at slots k) ≡ true
 null_at slots k nulls lt = All-get_or IsNull slots k Nil lt nulls

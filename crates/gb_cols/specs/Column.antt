@@ -3,9 +3,9 @@ use Rattle.std.specs.Prelude.{◌≡◌, ℕ, ◌+◌, ◌<◌, ◌^◌, Bool, L
 use Rattle.std.specs.List.{flat_map}
 use Rattle.gb_defs.specs.Cell.{cell_slot}
 use Rattle.gb_defs.specs.CellText.{cell_text}
-use Rattle.gb_defs.specs.Slot.{Slot, is_nil, slot_at}
-use Rattle.gb_defs.specs.ColumnType.{ColumnType}
-use Rattle.gb_cols.specs.Array.{if_taken}
+use Rattle.gb_defs.specs.Slot.{Slot, slot_at}
+use Rattle.gb_defs.specs.ColumnType.{ColumnType, Flat, Categorical, Enum}
+use Rattle.gb_numbers.specs.Taken.{if_taken}
 use Rattle.gb_defs.specs.Column.{ColumnValue, IsFlagTrue, NotSorted, SortedFlag}
 
 -- the column of these chunks
@@ -18,15 +18,6 @@ pub record IsSmallColumn (c : ColumnValue) : Type 0 where
   pub flag_true : IsFlagTrue c.sorted c.dtype c.slots
   pub small : length c.slots < 2 ^ 63
   pub few : length c.chunks < 2 ^ 64
-
-abbrev pub IsNull : Slot → Type 0
-IsNull slot = is_nil slot ≡ true
-
--- a place holds a slot, and every earlier place a null
-pub record IsFirstValid (slots : List Slot) (place : ℕ) : Type 0 where
-  pub inside : place < length slots
-  pub valid : is_nil (slot_at slots place) ≡ false
-  pub earlier : (k : ℕ) → k < place → is_nil (slot_at slots k) ≡ true
 
 -- a place behind so many, or what was found among those where there is none
 abbrev pub later_place : Option ℕ → ℕ → Option ℕ → Option ℕ
@@ -54,6 +45,13 @@ unflagged c = record { name = c.name; dtype = c.dtype; slots = c.slots; chunks =
 -- there is room for one slot more
 abbrev pub HasRoom : ColumnValue → Type 0
 HasRoom c = length c.slots + 1 < 2 ^ 63
+
+-- the cells of a type read as its slots: those of a category read as texts, which are given their codes
+-- as a whole
+abbrev pub ReadsCells : ColumnType → Type 0
+ReadsCells (Flat (Categorical texts ordering)) = ⊥
+ReadsCells (Flat (Enum texts ordering)) = ⊥
+ReadsCells _ = Unit {0}
 
 -- the column with the slot of a cell at its end
 abbrev pub column_with : List ℕ → ColumnValue → List ℕ → Option ColumnValue

@@ -1,21 +1,22 @@
 //! Named columns of any values.
 
-ghost use Rattle.std.specs.Prelude.{◌≡◌, ◌⊎◌, ◌+◌, ◌<◌, ◌^◌, [], true, length, replicate, option_map, IfOk, IfErr, IfSome, OnOk, OnErr};
+ghost use Rattle.std.specs.Prelude.{◌≡◌, ◌⊎◌, ◌+◌, ◌++◌, ◌∷◌, ◌<◌, ◌^◌, [], true, length, replicate, option_map, IfOk, IfErr, IfSome, OnOk, OnErr};
 ghost use Rattle.std.specs.Bool.{OnFalse};
 ghost use Rattle.std.specs.Str.{IsUtf8};
 ghost use Rattle.gb_defs.specs.Slot.{Nil, slot_at};
 ghost use Rattle.gb_cols.specs.Column.{later_place};
-ghost use Rattle.gb_cols.specs.SlotOrder.{last_slot, later_slot};
+ghost use Rattle.gb_values.specs.SlotOrder.{last_slot, later_slot};
 
-use crate::data_type::{DataType, IsSorted};
-use crate::error::{PolarsError, PolarsResult};
-use crate::nullable::{NullableArray, Values};
-use crate::nullable_idx::IdxSize;
+use crate::primitive::UInt32Chunked;
 use crate::series_trait::SeriesTrait;
 use crate::slices::{pop_chunk, push_part, slice_bounds};
-use crate::slot_order::{OrderWalk, SlotOrder};
-use crate::small_str::PlSmallStr;
-use crate::utf8::TextValues;
+use gb_base::data_type::{DataType, IsSorted};
+use gb_base::error::{PolarsError, PolarsResult};
+use gb_base::nullable_idx::IdxSize;
+use gb_base::small_str::PlSmallStr;
+use gb_values::nullable::{NullableArray, Values};
+use gb_values::slot_order::{OrderWalk, SlotOrder};
+use gb_values::utf8::TextValues;
 use std::alloc::{AllocError, Global};
 use std::marker::Model;
 use std::mem;
@@ -29,8 +30,6 @@ pub struct ChunkedArray<V: Values> {
     pub(crate) sorted: IsSorted,
 }
 
-pub use crate::numeric::{Int64Chunked, UInt32Chunked};
-
 pub type IdxCa = UInt32Chunked;
 
 pub type StringChunked = ChunkedArray<TextValues>;
@@ -39,8 +38,8 @@ impl<V: Values> Model for ChunkedArray<V> {
     ghost use Rattle.std.specs.Prelude.{◌++◌, ◌∷◌, []};
     ghost use Rattle.gb_defs.specs.Column.{ColumnValue, column_code};
     ghost use Rattle.gb_cols.specs.Column.{column_of, IsSmallColumn};
-    ghost use Rattle.gb_cols.specs.Sorted.{flag_of};
-    ghost use Rattle.gb_cols.specs.PlSmallStr.{name_of};
+    ghost use Rattle.gb_base.specs.Sorted.{flag_of};
+    ghost use Rattle.gb_base.specs.PlSmallStr.{name_of};
 
     ghost Value = { ColumnValue };
 
@@ -55,7 +54,7 @@ impl<V: Values> Model for ChunkedArray<V> {
 
 impl<V: Values> SeriesTrait for ChunkedArray<V> {
     ghost use Rattle.std.specs.Prelude.{◌≡◌};
-    ghost use Rattle.gb_cols.specs.PlSmallStr.{name_of};
+    ghost use Rattle.gb_base.specs.PlSmallStr.{name_of};
 
     ghost value = { λ c. c };
 
@@ -185,9 +184,35 @@ impl<V: Values> SeriesTrait for ChunkedArray<V> {
         self.put_cell(cell, is_text)
     }
 
+    #[tactic(auto, unfolding(gb_defs::specs::Cell::cell_slot))]
+    fn reads_cell(&self, cell: &[u8], is_text: bool, null_word: &str) -> bool {
+        // The name tells the type.
+        let _ = self.name();
+        cell == null_word.as_bytes() || V::reads_cell(cell, is_text)
+    }
+
     fn write_cell(&self, row: usize, null_word: &str, to: &mut Vec<u8>) -> Result<(), AllocError> {
         let (chunk, place) = self.locate(row);
         chunk.write_cell(place, null_word, to)
+    }
+
+    fn append(&mut self, other: Self) -> PolarsResult<()> {
+        let ChunkedArray {
+            name: _,
+            earlier: mut later,
+            last,
+            sorted: _,
+        } = other;
+        // One chunk more than come: the lengths of the chunks are to have a count.
+        let Some(chunks) = later.len().checked_add(2) else {
+            return Err(PolarsError::NoMemory);
+        };
+        self.earlier.reserve(chunks)?;
+        self.earlier
+            .push_reserved(mem::replace(&mut self.last, last));
+        self.earlier.append(&mut later)?;
+        self.sorted = IsSorted::Not;
+        Ok(())
     }
 
     fn take(&self, rows: &[IdxSize]) -> PolarsResult<Self> {
@@ -256,9 +281,9 @@ impl<V: Values> SeriesTrait for ChunkedArray<V> {
 }
 
 impl<V: Values> ChunkedArray<V> {
-    ghost use Rattle.gb_cols.specs.Array.{if_taken};
-    ghost use Rattle.gb_cols.specs.Column.{HasRoom, appended, pushed, unflagged};
-    ghost use Rattle.gb_cols.specs.PlSmallStr.{name_of, IsNoMemory};
+    ghost use Rattle.gb_numbers.specs.Taken.{if_taken};
+    ghost use Rattle.gb_cols.specs.Column.{HasRoom, column_of, pushed, unflagged};
+    ghost use Rattle.gb_base.specs.PlSmallStr.{name_of, IsNoMemory};
     ghost use Rattle.gb_defs.specs.Cell.{value_of_field};
     ghost use Rattle.gb_defs.specs.Column.{fresh_column};
 
@@ -274,8 +299,8 @@ impl<V: Values> ChunkedArray<V> {
         }
     }
 
-    // The column of one chunk.
-    pub(crate) fn from_chunk(alloc: Global, name: PlSmallStr, chunk: NullableArray<V>) -> Self
+    /// The column of one chunk.
+    pub fn from_chunk(alloc: Global, name: PlSmallStr, chunk: NullableArray<V>) -> Self
         ensures { result ≡ fresh_column (name_of name) V.dtype chunk }
     {
         // Its clauses say that the chunk is not too long.
@@ -288,8 +313,18 @@ impl<V: Values> ChunkedArray<V> {
         }
     }
 
-    // The column with no flag.
-    pub(crate) fn unflagged(mut self) -> Self
+    /// So many nulls, in one chunk.
+    pub fn full_null(alloc: Global, name: PlSmallStr, len: usize) -> PolarsResult<Self>
+        ensures ok { let nulls = replicate len Nil in
+            IfOk result (λ c. c ≡ fresh_column (name_of name) V.dtype nulls) }
+        ensures err { IfErr result IsNoMemory }
+    {
+        let nulls = NullableArray::nulls(alloc, len)?;
+        Ok(ChunkedArray::from_chunk(alloc, name, nulls))
+    }
+
+    /// The column with no flag.
+    pub fn unflagged(mut self) -> Self
         ensures value { result ≡ unflagged self }
         ensures typed { self.dtype ≡ V.dtype }
     {
@@ -306,34 +341,17 @@ impl<V: Values> ChunkedArray<V> {
         Ok(())
     }
 
-    /// The other's chunks come last.
-    pub fn append(&mut self, other: Self) -> PolarsResult<()>
-        requires { length self.old.slots + length other.slots < 2 ^ 63 }
-        ensures ok { OnOk result (self.new ≡ appended self.old other) }
-        ensures err { IfErr result IsNoMemory }
-        ensures unchanged { OnErr result (self.new ≡ self.old) }
+    /// The chunks: the earlier ones, and the last.
+    pub fn chunks(&self) -> (&[NullableArray<V>], &NullableArray<V>)
+        ensures { let c = self.now in
+            c ≡ column_of c.dtype c.name c.sorted (result.0.now ++ result.1.now ∷ []) }
     {
-        let ChunkedArray {
-            name: _,
-            earlier: mut later,
-            last,
-            sorted: _,
-        } = other;
-        // One chunk more than come: the lengths of the chunks are to have a count.
-        let Some(chunks) = later.len().checked_add(2) else {
-            return Err(PolarsError::NoMemory);
-        };
-        self.earlier.reserve(chunks)?;
-        self.earlier
-            .push_reserved(mem::replace(&mut self.last, last));
-        self.earlier.append(&mut later)?;
-        self.sorted = IsSorted::Not;
-        Ok(())
+        (self.earlier.as_slice(), &self.last)
     }
 
-    // One null more at the end of the last chunk.
+    /// One null more at the end of the last chunk. Its error is small, for what is called for each cell.
     #[inline]
-    pub(crate) fn put_null(&mut self) -> Result<(), AllocError>
+    pub fn put_null(&mut self) -> Result<(), AllocError>
         requires { HasRoom self.old }
         ensures ok { OnOk result (self.new ≡ pushed self.old Nil) }
         ensures unchanged { OnErr result (self.new ≡ self.old) }

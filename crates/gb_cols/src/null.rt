@@ -5,13 +5,13 @@ ghost use Rattle.gb_defs.specs.Slices.{or_one};
 ghost use Rattle.gb_defs.specs.ColumnType.{Flat, Null};
 ghost use Rattle.gb_cols.specs.Null.{AreNulls, counted_part};
 
-use crate::data_type::{DataType, IsSorted};
-use crate::error::{PolarsError, PolarsResult};
-use crate::nullable_idx::IdxSize;
 use crate::series_trait::SeriesTrait;
 use crate::slices::slice_bounds;
-use crate::slot_order::SlotOrder;
-use crate::small_str::PlSmallStr;
+use gb_base::data_type::{DataType, IsSorted};
+use gb_base::error::{PolarsError, PolarsResult};
+use gb_base::nullable_idx::IdxSize;
+use gb_base::small_str::PlSmallStr;
+use gb_values::slot_order::SlotOrder;
 use std::alloc::{AllocError, Global};
 use std::marker::Model;
 use std::mem;
@@ -28,7 +28,7 @@ impl Model for NullChunked {
     ghost use Rattle.std.specs.Prelude.{◌++◌, ◌∷◌, ◌<◌, ◌^◌, [], sum};
     ghost use Rattle.gb_defs.specs.Column.{ColumnValue, column_code};
     ghost use Rattle.gb_cols.specs.Null.{null_column};
-    ghost use Rattle.gb_cols.specs.PlSmallStr.{name_of};
+    ghost use Rattle.gb_base.specs.PlSmallStr.{name_of};
 
     ghost Value = { ColumnValue };
 
@@ -40,11 +40,11 @@ impl Model for NullChunked {
 }
 
 impl NullChunked {
-    ghost use Rattle.std.specs.Prelude.{◌≡◌, ◌∷◌, ◌+◌, ◌<◌, ◌^◌, [], length, IfErr, OnOk, OnErr};
-    ghost use Rattle.gb_cols.specs.Column.{HasRoom, appended, pushed};
-    ghost use Rattle.gb_defs.specs.Slot.{Nil};
+    ghost use Rattle.std.specs.Prelude.{◌≡◌, ◌∷◌, ◌<◌, ◌^◌, [], None, length};
+    ghost use Rattle.gb_cols.specs.Column.{HasRoom, pushed};
+    ghost use Rattle.gb_defs.specs.Slot.{Nil, slot_at};
     ghost use Rattle.gb_cols.specs.Null.{null_column};
-    ghost use Rattle.gb_cols.specs.PlSmallStr.{name_of, IsNoMemory};
+    ghost use Rattle.gb_base.specs.PlSmallStr.{name_of};
 
     /// So many nulls, in one chunk.
     pub fn new(alloc: Global, name: PlSmallStr, len: usize) -> Self
@@ -58,26 +58,15 @@ impl NullChunked {
         }
     }
 
-    /// The other's chunks come last.
-    pub fn append(&mut self, other: Self) -> PolarsResult<()>
-        requires { length self.old.slots + length other.slots < 2 ^ 63 }
-        ensures ok { OnOk result (self.new ≡ appended self.old other) }
-        ensures err { IfErr result IsNoMemory }
-        ensures unchanged { OnErr result (self.new ≡ self.old) }
+    /// The slot of a row: there is never a value.
+    pub fn get(&self, _row: usize) -> Option<()>
+        requires { _row < length self.now.slots }
+        ensures none { result ≡ None }
+        ensures null { slot_at self.now.slots _row ≡ Nil }
     {
-        let NullChunked {
-            name: _,
-            earlier: mut later,
-            last,
-        } = other;
-        let Some(chunks) = later.len().checked_add(1) else {
-            return Err(PolarsError::NoMemory);
-        };
-        self.earlier.reserve(chunks)?;
-        self.earlier
-            .push_reserved(mem::replace(&mut self.last, last));
-        self.earlier.append(&mut later)?;
-        Ok(())
+        // Its clauses say that every slot is null.
+        let _ = self.allocator();
+        None
     }
 
     // One null more in the last chunk.
@@ -197,9 +186,31 @@ impl SeriesTrait for NullChunked {
         Ok(false)
     }
 
+    #[tactic(auto, unfolding(gb_defs::specs::Cell::cell_slot))]
+    fn reads_cell(&self, cell: &[u8], _is_text: bool, null_word: &str) -> bool {
+        let _ = &self.name;
+        cell == null_word.as_bytes()
+    }
+
     fn write_cell(&self, _row: usize, null_word: &str, to: &mut Vec<u8>) -> Result<(), AllocError> {
         let _ = &self.name;
         to.extend_from_slice(null_word.as_bytes())?;
+        Ok(())
+    }
+
+    fn append(&mut self, other: Self) -> PolarsResult<()> {
+        let NullChunked {
+            name: _,
+            earlier: mut later,
+            last,
+        } = other;
+        let Some(chunks) = later.len().checked_add(1) else {
+            return Err(PolarsError::NoMemory);
+        };
+        self.earlier.reserve(chunks)?;
+        self.earlier
+            .push_reserved(mem::replace(&mut self.last, last));
+        self.earlier.append(&mut later)?;
         Ok(())
     }
 

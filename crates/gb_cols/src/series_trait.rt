@@ -1,23 +1,25 @@
 //! What every column can be asked, whatever its type.
 
-ghost use Rattle.std.specs.Prelude.{◌≡◌, ◌≢◌, ◌↔◌, ◌==◌, IsTrue, ◌⊎◌, ℕ, ◌+◌, ◌++◌, ◌<◌, ◌^◌, true, not, length, sum, IfOk, IfErr, OnOk, OnErr, MatchOption, All};
+ghost use Rattle.std.specs.Prelude.{◌≡◌, ◌≢◌, ◌↔◌, ◌==◌, IsTrue, ◌⊎◌, ℕ, ◌+◌, ◌++◌, ◌<◌, ◌^◌, true, is_some, not, length, sum, IfOk, IfErr, OnOk, OnErr, MatchOption, All};
 ghost use Rattle.std.specs.Bool.{OnFalse};
 ghost use Rattle.std.specs.List.{count_by, list_any, position};
 ghost use Rattle.std.specs.Str.{IsUtf8};
+ghost use Rattle.gb_defs.specs.Cell.{cell_slot};
 ghost use Rattle.gb_defs.specs.Slot.{Nil, is_nil, slot_at};
 ghost use Rattle.gb_defs.specs.Column.{Ascending, Descending, NotSorted, ColumnValue, IsDetected, IsFlagTrue, IsLastValid, flagged, is_valid, rechunked, repeated, sliced, taken};
 ghost use Rattle.gb_defs.specs.ColumnType.{Fits};
-ghost use Rattle.gb_cols.specs.Column.{HasRoom, IsNull, TakesCell, cell_of, pushed};
-ghost use Rattle.gb_cols.specs.DataType.{type_of};
-ghost use Rattle.gb_cols.specs.PlSmallStr.{name_of, IsNoMemory};
-ghost use Rattle.gb_cols.specs.SlotOrder.{IsOrderOf};
-ghost use Rattle.gb_cols.specs.Sorted.{flag_of};
+ghost use Rattle.gb_cols.specs.Column.{HasRoom, ReadsCells, TakesCell, appended, cell_of, pushed};
+ghost use Rattle.gb_values.specs.Valid.{IsNull};
+ghost use Rattle.gb_base.specs.DataType.{type_of};
+ghost use Rattle.gb_base.specs.PlSmallStr.{name_of, IsNoMemory};
+ghost use Rattle.gb_values.specs.SlotOrder.{IsOrderOf};
+ghost use Rattle.gb_base.specs.Sorted.{flag_of};
 
-use crate::data_type::{DataType, IsSorted};
-use crate::error::PolarsResult;
-use crate::nullable_idx::IdxSize;
-use crate::slot_order::SlotOrder;
-use crate::small_str::PlSmallStr;
+use gb_base::data_type::{DataType, IsSorted};
+use gb_base::error::PolarsResult;
+use gb_base::nullable_idx::IdxSize;
+use gb_base::small_str::PlSmallStr;
+use gb_values::slot_order::SlotOrder;
 use std::alloc::{AllocError, Global};
 
 /// A named column. Contracts see it as its name, type, slots, chunk lengths and flags.
@@ -165,6 +167,7 @@ pub trait SeriesTrait: Drop {
     /// cell that is known to be a text is not looked at again. Its error is small, since this is called
     /// for each cell.
     fn push_cell(&mut self, cell: &[u8], is_text: bool, null_word: &str) -> Result<bool, AllocError>
+        requires reads { ReadsCells (value self.old).dtype }
         requires room { HasRoom (value self.old) }
         requires is_text { is_text ≡ true → IsUtf8 cell.now }
         ensures ok { IfOk result
@@ -172,11 +175,26 @@ pub trait SeriesTrait: Drop {
         ensures refused { IfOk result (λ took. OnFalse took (value self.new ≡ value self.old)) }
         ensures unchanged { OnErr result (value self.new ≡ value self.old) };
 
+    /// Whether a cell of a table reads as a slot. A cell that is known to be a text is not looked at again.
+    fn reads_cell(&self, cell: &[u8], is_text: bool, null_word: &str) -> bool
+        requires reads { ReadsCells (value self.now).dtype }
+        requires is_text { is_text ≡ true → IsUtf8 cell.now }
+        ensures { let t = (value self.now).dtype in
+            result ≡ is_some (cell_slot null_word.now t cell.now) };
+
     /// The text of the slot of a row, behind what is there.
     fn write_cell(&self, row: usize, null_word: &str, to: &mut Vec<u8>) -> Result<(), AllocError>
         requires { row < length (value self.now).slots }
         ensures { let cell = cell_of null_word.now (value self.now) row in
             OnOk result (to.new.items ≡ to.old.items ++ cell) };
+
+    /// The other's chunks come last. Both have one type.
+    fn append(&mut self, other: Self) -> PolarsResult<()>
+        requires typed { (value other).dtype ≡ (value self.old).dtype }
+        requires few { length (value self.old).slots + length (value other).slots < 2 ^ 63 }
+        ensures ok { OnOk result (value self.new ≡ appended (value self.old) (value other)) }
+        ensures err { IfErr result IsNoMemory }
+        ensures unchanged { OnErr result (value self.new ≡ value self.old) };
 
     /// The slots of these rows, in one chunk.
     fn take(&self, rows: &[IdxSize]) -> PolarsResult<Self>

@@ -2,12 +2,9 @@
 
 ghost use Rattle.std.specs.Prelude.{◌≡◌, ◌++◌, ◌∷◌, [], OnOk};
 ghost use Rattle.gb_defs.specs.Slices.{moved_into, or_one, slice_end, slice_start};
-ghost use Rattle.gb_cols.specs.Array.{filled_part};
+ghost use Rattle.gb_values.specs.Array.{filled_part};
 
-#[cfg(test)]
-mod tests;
-
-use crate::nullable::{NullableArray, Values};
+use gb_values::nullable::{NullableArray, Values};
 use std::alloc::{AllocError, Global};
 
 // A place moved into so many slots.

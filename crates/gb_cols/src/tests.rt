@@ -1,20 +1,16 @@
-//! Each public call of the crate once.
+//! Each public call of the columns once.
+
+ghost use Rattle.gb_cols.specs.Column.{ReadsCells};
 
 use crate::binary::{BinaryChunked, BinaryOffsetChunked};
 use crate::boolean::BooleanChunked;
-use crate::chunked::{Int64Chunked, StringChunked, UInt32Chunked};
-use crate::data_type::{DataType, IsSorted};
-use crate::device::{Failed, Sink, Source};
-use crate::error::{Operation, PolarsError, PolarsResult};
-use crate::memory::{MemSink, SoundSource};
-use crate::nullable_idx::NullableIdxSize;
-use crate::numeric::{Int8Chunked, Int32Chunked, Int64Type, Int128Chunked};
-use crate::pool::Pool;
-use crate::primitive::PrimitiveArray;
+use crate::chunked::StringChunked;
+use crate::null::NullChunked;
+use crate::primitive::{Int8Chunked, Int32Chunked, Int64Chunked, Int128Chunked, UInt32Chunked};
 use crate::series_trait::SeriesTrait;
-use crate::small_str::PlSmallStr;
-use crate::standard::StderrSink;
-use crate::utf8::Utf8Array;
+use gb_base::data_type::{DataType, IsSorted};
+use gb_base::error::PolarsResult;
+use gb_base::small_str::PlSmallStr;
 use std::alloc::Global;
 use std::test::Fail;
 
@@ -64,6 +60,8 @@ fn keys_of_each_form(rt: HostRuntime) -> Result<(), Fail> {
 
 // Whether a cell reads at the end of a short column.
 fn push_flag(column: &mut BooleanChunked, cell: &str) -> PolarsResult<bool> {
+    // The name tells the type.
+    let _ = column.name();
     if column.len() > 9 {
         return Ok(false);
     }
@@ -106,6 +104,16 @@ fn flags_read_and_written(rt: HostRuntime) -> Result<(), Fail> {
     column.write_cell(1, "null", &mut text)?;
     column.write_cell(2, "null", &mut text)?;
     assert_eq!(rt; text.as_slice(), b"truenullfalse".as_slice());
+    Ok(())
+}
+
+#[test]
+fn nulls_have_no_value(rt: HostRuntime) -> Result<(), Fail> {
+    let alloc = rt.alloc();
+    let mut column = NullChunked::new(alloc, name_of(alloc)?, 1);
+    column.append(NullChunked::new(alloc, name_of(alloc)?, 2))?;
+    assert_eq!(rt; column.len(), 3);
+    assert!(rt; column.get(2).is_none());
     Ok(())
 }
 
@@ -158,6 +166,8 @@ fn bytes_of_rows_and_nulls(rt: HostRuntime) -> Result<(), Fail> {
 
 // Puts a cell at the end of a short column.
 fn push_short(column: &mut Int8Chunked, cell: &str) -> PolarsResult<bool> {
+    // The name tells the type.
+    let _ = column.name();
     if column.len() > 9 {
         return Ok(false);
     }
@@ -184,6 +194,69 @@ fn cells_read_and_written(rt: HostRuntime) -> Result<(), Fail> {
 
 fn name_of(alloc: Global) -> PolarsResult<PlSmallStr> {
     PlSmallStr::from_str(alloc, "m")
+}
+
+// Whether a column reads the null word and a cell, and another cell not.
+fn reads_but<C: SeriesTrait>(column: &C, cell: &[u8], other: &[u8]) -> bool
+    requires { ReadsCells (C.value column.now).dtype }
+{
+    column.reads_cell(b"none", false, "none")
+        && column.reads_cell(cell, false, "none")
+        && !column.reads_cell(other, false, "none")
+}
+
+fn numbers_know_cells(alloc: Global) -> PolarsResult<bool> {
+    let column = Int8Chunked::new(alloc, name_of(alloc)?);
+    Ok(reads_but(&column, b"-128", b"128"))
+}
+
+fn flags_know_cells(alloc: Global) -> PolarsResult<bool> {
+    let column = BooleanChunked::new(alloc, name_of(alloc)?);
+    Ok(reads_but(&column, b"true", b"True"))
+}
+
+fn texts_know_cells(alloc: Global) -> PolarsResult<bool> {
+    let column = StringChunked::new(alloc, name_of(alloc)?);
+    Ok(reads_but(&column, "é".as_bytes(), b"\xff") && column.reads_cell(b"x", true, ""))
+}
+
+fn bytes_know_cells(alloc: Global) -> PolarsResult<bool> {
+    let column = BinaryChunked::new(alloc, name_of(alloc)?);
+    Ok(reads_but(&column, b"fF00", b"0"))
+}
+
+fn bytes_of_rows_know_cells(alloc: Global) -> PolarsResult<bool> {
+    let column = BinaryOffsetChunked::new(alloc, name_of(alloc)?);
+    Ok(reads_but(&column, b"none", b"00"))
+}
+
+fn nulls_know_cells(alloc: Global) -> PolarsResult<bool> {
+    let column = NullChunked::new(alloc, name_of(alloc)?, 1);
+    Ok(reads_but(&column, b"none", b"0"))
+}
+
+#[test]
+fn cells_that_read(rt: HostRuntime) -> Result<(), Fail> {
+    let alloc = rt.alloc();
+    assert!(rt; numbers_know_cells(alloc)?);
+    assert!(rt; flags_know_cells(alloc)?);
+    assert!(rt; texts_know_cells(alloc)?);
+    assert!(rt; bytes_know_cells(alloc)?);
+    assert!(rt; bytes_of_rows_know_cells(alloc)?);
+    assert!(rt; nulls_know_cells(alloc)?);
+    Ok(())
+}
+
+#[test]
+fn nulls_alone(rt: HostRuntime) -> Result<(), Fail> {
+    let alloc = rt.alloc();
+    let column = Int64Chunked::full_null(alloc, name_of(alloc)?, 2)?;
+    assert_eq!(rt;
+        (column.len(), column.null_count(), column.n_chunks()),
+        (2, 2, 1)
+    );
+    assert_eq!(rt; column.dtype()?, DataType::Int64);
+    Ok(())
 }
 
 #[test]
@@ -224,144 +297,5 @@ fn texts_are_taken(rt: HostRuntime) -> Result<(), Fail> {
     assert_eq!(rt; taken.len(), 3);
     assert_eq!(rt; taken.get(1), Some("bc"));
     assert_eq!(rt; taken.null_count(), 0);
-    Ok(())
-}
-
-#[test]
-fn storages_are_copied(rt: HostRuntime) -> Result<(), Fail> {
-    let mut texts = Utf8Array::empty(rt.alloc());
-    texts.push(Some("ab"))?;
-    texts.push(None)?;
-    let copy = texts.try_clone()?;
-    assert_eq!(rt; copy.len(), 2);
-    assert_eq!(rt; copy.get(0), Some("ab"));
-    assert_eq!(rt; copy.get(1), None);
-    let numbers: PrimitiveArray<Int64Type> = PrimitiveArray::from_slice(rt.alloc(), &[3, 4])?;
-    let copy = numbers.try_clone()?;
-    assert_eq!(rt; copy.len(), 2);
-    assert_eq!(rt; copy.get(1), Some(4));
-    Ok(())
-}
-
-#[test]
-fn a_source_in_memory(rt: HostRuntime) -> Result<(), Fail> {
-    let mut source = SoundSource::new(Vec::from_slice(rt.alloc(), b"abcde")?);
-    let mut room = [0u8; 3];
-    assert_eq!(rt; source.read(&mut room), Ok(3));
-    assert_eq!(rt; room.as_slice(), b"abc".as_slice());
-    assert_eq!(rt; source.read(&mut room), Ok(2));
-    assert_eq!(rt; source.read(&mut room), Ok(0));
-    Ok(())
-}
-
-#[test]
-fn a_sink_in_memory(rt: HostRuntime) -> Result<(), Fail> {
-    let alloc = rt.alloc();
-    let mut sink = MemSink::new(alloc, 4, 3, vec![in alloc; 2u64]?)?;
-    assert_eq!(rt; sink.write(b"abcde"), Ok(3));
-    assert_eq!(rt; sink.write(b"de"), Err(Failed));
-    assert_eq!(rt; sink.write(b"de"), Ok(1));
-    assert_eq!(rt; sink.write(b"e"), Err(Failed));
-    assert_eq!(rt; sink.bytes(), b"abcd".as_slice());
-    Ok(())
-}
-
-#[test]
-fn pools(rt: HostRuntime) -> Result<(), Fail> {
-    for (workers, partitions, row_threshold, piece_rows, fits) in [
-        (1, 1, 1, 1, true),
-        (64, 1024, 9, 9, true),
-        (0, 1, 1, 1, false),
-        (65, 1, 1, 1, false),
-        (1, 0, 1, 1, false),
-        (1, 1025, 1, 1, false),
-        (1, 1, 0, 1, false),
-        (1, 1, 1, 0, false),
-    ] {
-        assert_eq!(rt;
-            Pool::fits(workers, partitions, row_threshold, piece_rows),
-            fits
-        );
-    }
-    let pool = Pool::new(4, 8, 16, 32, 5);
-    assert_eq!(rt;
-        (
-            pool.workers(),
-            pool.partitions(),
-            pool.row_threshold(),
-            pool.piece_rows()
-        ),
-        (4, 8, 16, 32)
-    );
-    assert_eq!(rt; pool.seed(), 5);
-    Ok(())
-}
-
-#[test]
-fn row_numbers_that_may_be_missing(rt: HostRuntime) -> Result<(), Fail> {
-    for (index, row) in [
-        (NullableIdxSize::some(0), Some(0)),
-        (NullableIdxSize::some(4294967294), Some(4294967294)),
-        (NullableIdxSize::null(), None),
-    ] {
-        assert_eq!(rt; index.get(), row);
-        assert_eq!(rt; index.is_null_idx(), row.is_none());
-    }
-    assert!(rt; NullableIdxSize::some(7) != NullableIdxSize::null());
-    assert!(rt; NullableIdxSize::null() == NullableIdxSize::null());
-    Ok(())
-}
-
-#[test]
-fn a_sink_of_standard_error(rt: HostRuntime) -> Result<(), Fail> {
-    let mut sink = StderrSink::new(rt.stderr());
-    assert_eq!(rt; sink.write(b""), Ok(0));
-    assert_eq!(rt; sink.write(b"told\n"), Ok(5));
-    Ok(())
-}
-
-#[test]
-fn operations_have_words(rt: HostRuntime) -> Result<(), Fail> {
-    let alloc = rt.alloc();
-    for (operation, words) in [
-        (Operation::Sum, "sum"),
-        (Operation::Product, "product"),
-        (Operation::Min, "min"),
-        (Operation::Max, "max"),
-        (Operation::Hash, "hash"),
-        (Operation::RowEncoding, "row encoding"),
-    ] {
-        assert_eq!(rt; format!(in alloc; "{operation}")?.as_str(), words);
-    }
-    Ok(())
-}
-
-#[test]
-fn errors_have_lines(rt: HostRuntime) -> Result<(), Fail> {
-    let alloc = rt.alloc();
-    for (error, line) in [
-        (PolarsError::ComputeError, "compute"),
-        (PolarsError::ShapeMismatch, "shape mismatch"),
-        (PolarsError::TooManyRows(7), "too many rows: 7"),
-        (
-            PolarsError::ColumnNotFound(name_of(alloc)?),
-            "column not found: m",
-        ),
-        (
-            PolarsError::InvalidOperation(Operation::RowEncoding, name_of(alloc)?),
-            "invalid operation: row encoding of m",
-        ),
-        (
-            PolarsError::Duplicate(name_of(alloc)?),
-            "duplicate column: m",
-        ),
-        (
-            PolarsError::SchemaMismatch(name_of(alloc)?),
-            "schema mismatch: m",
-        ),
-        (PolarsError::NoMemory, "no memory"),
-    ] {
-        assert_eq!(rt; format!(in alloc; "{error}")?.as_str(), line);
-    }
     Ok(())
 }

@@ -9,7 +9,7 @@ use Rattle.std.specs.Str.Parse.{without_leading_plus, without_leading_sign, star
 use Rattle.std.specs.Int.{Width, w32, w64}
 use mir.Val.{bits, hbits}
 use Rattle.gb_defs.specs.Slot.{Slot, Nil, Num, Bytes}
-use Rattle.gb_defs.specs.ColumnType.{FlatType, Null, Boolean, Unsigned, Signed, Decimal, Date, Time, Datetime, Duration, String, Binary, Categorical, ColumnType, Flat, ListOf, ArrayOf, StructOf}
+use Rattle.gb_defs.specs.ColumnType.{FlatType, Boolean, Unsigned, Signed, Decimal, Date, Time, Datetime, Duration, String, Binary, Categorical, ColumnType, Flat, ListOf, ArrayOf, StructOf}
 use Rattle.gb_defs.specs.TypeWord.{scale_of}
 
 -- one decimal digit or more, and nothing else
@@ -101,24 +101,3 @@ value_of_field (StructOf fs) bs = None
 -- what a field reads as, None for a bad cell
 unfoldable pub cell_slot : List ℕ → ColumnType → List ℕ → Option Slot
 cell_slot null_word t bs = if bytes_eq bs null_word then Some Nil else value_of_field t bs
-
--- whether cells of the type are read today
-abbrev pub is_read_flat : FlatType → Bool
-is_read_flat Null = true
-is_read_flat Boolean = true
-is_read_flat (Unsigned w) = true
-is_read_flat (Signed w) = true
-is_read_flat (Decimal precision scale) = true
-is_read_flat Date = true
-is_read_flat Time = true
-is_read_flat (Datetime unit) = true
-is_read_flat (Duration unit) = true
-is_read_flat String = true
-is_read_flat Binary = true
-is_read_flat _ = false
-
-abbrev pub is_read : ColumnType → Bool
-is_read (Flat t) = is_read_flat t
-is_read (ListOf t) = false
-is_read (ArrayOf t width) = false
-is_read (StructOf fs) = false

@@ -1,8 +1,8 @@
 -- A table's text, read. The records and their fields are those that `csv` reads with a flexible reader,
 -- with no header row and no trimming, from the bytes after a byte order mark. Faults come in reading
--- order; rows count from 0, the header, and columns from 1. A header field that names a type of which no
--- cell is read yet is a bad cell of the header.
-use Rattle.std.specs.Prelude.{ℕ, suc, pos, ◌==◌, Bool, true, not, ◌&&◌, List, [], ◌∷◌, ◌++◌, map, length, position, Option, Some, None, unwrap_or, Result, Ok, Err, if◌then◌else◌}
+-- order; rows count from 0, the header, and columns from 1. A header field that is no text is a bad cell
+-- of the header.
+use Rattle.std.specs.Prelude.{ℕ, suc, pos, ◌==◌, Bool, true, not, List, [], ◌∷◌, ◌++◌, map, length, position, Option, Some, None, unwrap_or, Result, Ok, Err, if◌then◌else◌}
 use Rattle.std.specs.Str.{bytes_eq, is_utf8}
 use Rattle.std.specs.List.{list_any, before_last, after_last}
 use Rattle.csv.specs.Reading.{records, default_config, strip_bom}
@@ -10,7 +10,7 @@ use Rattle.gb_defs.specs.Slot.{Slot, Num, Bytes, slot_at}
 use Rattle.gb_defs.specs.ColumnType.{CategoricalOrdering, Categorical, ColumnType, FlatType, Flat, text}
 use Rattle.gb_defs.specs.Column.{ColumnValue, Frame, NotSorted, fresh_column}
 use Rattle.gb_defs.specs.TypeWord.{type_of_word}
-use Rattle.gb_defs.specs.Cell.{cell_slot, is_read}
+use Rattle.gb_defs.specs.Cell.{cell_slot}
 
 pub data TableFault : Type 0 where
   NoHeader : TableFault
@@ -39,15 +39,11 @@ abbrev pub onto : {A : Type 0} → A → Result (List A) TableFault → Result (
 onto x (Ok xs) = Ok (x ∷ xs)
 onto x (Err fault) = Err fault
 
--- whether a header field is text, and names a type of which cells are read today
-abbrev pub is_readable : List ℕ → Bool
-is_readable field = is_utf8 field && is_read (head_of field).dtype
-
 -- the columns from the k-th on, after those with the names `seen`
 abbrev pub heads_from : ℕ → List (List ℕ) → List (List ℕ) → Result (List Head) TableFault
 heads_from k seen [] = Ok []
 heads_from k seen (field ∷ fields) =
-    if not (is_readable field) then Err (BadCell 0 k)
+    if not (is_utf8 field) then Err (BadCell 0 k)
     else if list_any (bytes_eq (head_of field).name) seen then Err (SameName k)
     else onto (head_of field) (heads_from (suc k) ((head_of field).name ∷ seen) fields)
 

@@ -45,6 +45,8 @@ pub fn outcomes()
         ≡ Report (codes "k:null,v_sum:i64\n,6\n") }
     ensures hundredths { outcome sums_by_key (codes "k:date,v:dec2\n-1,0.5\n-1,-.25\n")
         ≡ Report (codes "k:date,v_sum:dec2\n-1,0.25\n") }
+    ensures categories { outcome sums_by_key (codes "k:cat,v:i64\nx,1\n,2\ny,5\nx,3\n")
+        ≡ Report (codes "k:cat,v_sum:i64\nx,4\n,2\ny,5\n") }
     ensures null_is_a_group { outcome sums_by_key (codes "k,v:i64\n,5\n1,6\n,7\n")
         ≡ Report (codes "k:str,v_sum:i64\n,12\n1,6\n") }
     ensures number_key { outcome sums_by_key (codes "k:i64,v:i64\n,5\n1,6\n,7\n")
@@ -58,7 +60,6 @@ pub fn outcomes()
     ensures ragged { outcome keys_alone (codes "k\n1,2\n") ≡ BadTable (Ragged 1 2 1) }
     ensures same_name { outcome keys_alone (codes "a,a:i64\n") ≡ BadTable (SameName 2) }
     ensures no_header { outcome keys_alone (codes "") ≡ BadTable NoHeader }
-    ensures unread_type { outcome keys_alone (codes "k,v:cat\n") ≡ BadTable (BadCell 0 2) }
     ensures header_from_the_left { outcome keys_alone (codes "k,k,v:i32\n")
         ≡ BadTable (SameName 2) }
     ensures first_bad_row { outcome keys_alone (codes "k,v:i64\na,1\nb\nc,x\n")

@@ -2,7 +2,7 @@
 use Rattle.std.specs.Prelude.{ℕ, List, [], map, Option, pos}
 use Rattle.gb_defs.specs.Column.{ColumnValue, fresh_column}
 use Rattle.gb_defs.specs.ColumnType.{uint32}
-use Rattle.gb_cols.specs.Array.{native_slot}
+use Rattle.gb_values.specs.Array.{native_slot}
 
 -- a column of row numbers with no name, null where a row is missing
 abbrev pub rows_column : List (Option ℕ) → ColumnValue

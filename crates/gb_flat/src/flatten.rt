@@ -1,13 +1,13 @@
 //! The items of several buffers in one vector.
 
 ghost use Rattle.std.specs.Prelude.{◌≡◌, [], IfOk, IfErr, IfNone};
-ghost use Rattle.gb_cols.specs.PlSmallStr.{IsNoMemory};
+ghost use Rattle.gb_base.specs.PlSmallStr.{IsNoMemory};
 ghost use Rattle.gb_flat.specs.Buffers.{joined};
 
 use crate::fill::fill_shares;
 use crate::shares::{cap_and_offsets, split_offsets};
-use gb_cols::error::PolarsResult;
-use gb_cols::pool::Pool;
+use gb_base::error::PolarsResult;
+use gb_base::pool::Pool;
 use std::alloc::Global;
 use std::thread::Threads;
 

@@ -1,16 +1,16 @@
 //! Row numbers of several buffers in one column.
 
 ghost use Rattle.std.specs.Prelude.{◌≡◌, IfOk, IfErr};
-ghost use Rattle.gb_cols.specs.PlSmallStr.{IsNoMemory};
+ghost use Rattle.gb_base.specs.PlSmallStr.{IsNoMemory};
 ghost use Rattle.gb_flat.specs.Buffers.{joined};
 ghost use Rattle.gb_flat.specs.Nullable.{rows_column};
 
 use crate::flatten::flatten_par;
+use gb_base::error::PolarsResult;
+use gb_base::nullable_idx::NullableIdxSize;
+use gb_base::pool::Pool;
+use gb_base::small_str::PlSmallStr;
 use gb_cols::chunked::IdxCa;
-use gb_cols::error::PolarsResult;
-use gb_cols::nullable_idx::NullableIdxSize;
-use gb_cols::pool::Pool;
-use gb_cols::small_str::PlSmallStr;
 use std::alloc::Global;
 use std::thread::Threads;
 

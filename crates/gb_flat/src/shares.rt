@@ -3,10 +3,10 @@
 
 ghost use Rattle.std.specs.Prelude.{◌≡◌, ℕ, ◌+◌, ◌<◌, ◌≤◌, All, length, map, IfOk, IfErr, slice_index_or, Ok, Err};
 ghost use Rattle.gb_defs.specs.Flat.{range_at, ranges_of};
-ghost use Rattle.gb_cols.specs.PlSmallStr.{IsNoMemory};
+ghost use Rattle.gb_base.specs.PlSmallStr.{IsNoMemory};
 ghost use Rattle.gb_flat.specs.Buffers.{item_count, joined, starts_of};
 
-use gb_cols::error::{PolarsError, PolarsResult};
+use gb_base::error::{PolarsError, PolarsResult};
 use std::alloc::{AllocError, Global};
 use std::thread::{self, Threads};
 

@@ -1,14 +1,14 @@
 //! Buffers laid one after another, and ranges worked on, by one worker and by several.
 
 ghost use Rattle.std.specs.Prelude.{◌+◌, ◌≤◌, IfErr};
-ghost use Rattle.gb_cols.specs.PlSmallStr.{IsNoMemory};
+ghost use Rattle.gb_base.specs.PlSmallStr.{IsNoMemory};
 
 use crate::flatten::flatten_par;
 use crate::nullable::flatten_nullable;
 use crate::shares::{cap_and_offsets, join_shares, map_shares, split_offsets};
-use gb_cols::error::PolarsResult;
-use gb_cols::nullable_idx::NullableIdxSize;
-use gb_cols::pool::Pool;
+use gb_base::error::PolarsResult;
+use gb_base::nullable_idx::NullableIdxSize;
+use gb_base::pool::Pool;
 use gb_cols::series_trait::SeriesTrait;
 use std::alloc::{AllocError, Global};
 use std::test::Fail;

@@ -2,15 +2,15 @@
 
 ghost use Rattle.std.specs.Prelude.{◌≡◌, ◌<◌, [], length, IsTrue, ◌↔◌, ◌==◌, true, false, map, slice_index_or, IfOk, IfErr, OnOk, OnErr};
 ghost use Rattle.std.specs.List.Sorted.{IsNonDecreasing};
-ghost use Rattle.gb_cols.specs.PlSmallStr.{IsNoMemory};
+ghost use Rattle.gb_base.specs.PlSmallStr.{IsNoMemory};
 ghost use Rattle.gb_defs.specs.Groups.{first_of, idx_groups, lists_in};
 ghost use Rattle.gb_flat.specs.Buffers.{joined};
 
 use crate::items::{join_parts, push_items, spread_parts, take_items};
 use crate::iter::GroupsIdxIter;
-use gb_cols::error::PolarsResult;
-pub use gb_cols::nullable_idx::IdxSize;
-use gb_cols::pool::Pool;
+use gb_base::error::PolarsResult;
+pub use gb_base::nullable_idx::IdxSize;
+use gb_base::pool::Pool;
 use gb_flat::shares::cap_and_offsets;
 use smallvec::SmallVec;
 use std::alloc::Global;

@@ -1,12 +1,12 @@
 //! Groups as runs of rows: of each its first row and its length.
 
 ghost use Rattle.std.specs.Prelude.{◌≡◌, ◌↔◌, map, IsTrue, IfErr, IfOk};
-ghost use Rattle.gb_cols.specs.PlSmallStr.{IsNoMemory};
+ghost use Rattle.gb_base.specs.PlSmallStr.{IsNoMemory};
 ghost use Rattle.gb_defs.specs.Groups.{first_of};
 ghost use Rattle.gb_groups.specs.Slices.{slice_pairs, SlicesFit};
 
-use gb_cols::error::PolarsResult;
-use gb_cols::nullable_idx::IdxSize;
+use gb_base::error::PolarsResult;
+use gb_base::nullable_idx::IdxSize;
 use std::marker::Model;
 
 /// Runs of rows, each `[start, length]`, that end at a row number. The starts never descend.

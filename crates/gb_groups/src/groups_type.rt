@@ -2,13 +2,13 @@
 
 ghost use Rattle.std.specs.Prelude.{◌≡◌, ◌<◌, ◌==◌, [], length, map, slice_index_or, IsTrue, true, IfErr, IfOk, OnOk, OnErr};
 ghost use Rattle.std.specs.List.Sorted.{IsNonDecreasing};
-ghost use Rattle.gb_cols.specs.PlSmallStr.{IsNoMemory};
+ghost use Rattle.gb_base.specs.PlSmallStr.{IsNoMemory};
 ghost use Rattle.gb_defs.specs.Groups.{first_of, Idx};
 
 use crate::groups_idx::{BorrowIdxItem, GroupsIdx, IdxSize};
 use crate::groups_slice::GroupsSlice;
 use crate::iter::GroupsTypeIter;
-use gb_cols::error::PolarsResult;
+use gb_base::error::PolarsResult;
 
 /// Groups in the form that the path to them gave.
 #[derive(Drop)]

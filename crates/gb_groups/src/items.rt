@@ -3,14 +3,14 @@
 
 ghost use Rattle.std.specs.Prelude.{◌≡◌, ◌+◌, ◌<◌, ◌≤◌, [], ◌++◌, length, map, slice_index_or, IfErr, IfOk, OnOk, OnErr};
 ghost use Rattle.std.specs.Vec.{vec_capacity};
-ghost use Rattle.gb_cols.specs.PlSmallStr.{IsNoMemory};
+ghost use Rattle.gb_base.specs.PlSmallStr.{IsNoMemory};
 ghost use Rattle.gb_flat.specs.Buffers.{item_count, joined, starts_of};
 ghost use Rattle.gb_flat.specs.Shares.{DealsOut};
 ghost use Rattle.gb_groups.specs.Groups.{paired, pairs_of};
 ghost use Rattle.gb_groups.specs.Parts.{HaveRoomFor, Hold};
 
 use crate::groups_idx::{IdxItem, IdxSize, IdxVec};
-use gb_cols::error::PolarsResult;
+use gb_base::error::PolarsResult;
 use gb_flat::shares::split_offsets;
 use smallvec::SmallVec;
 use std::alloc::{AllocError, Global};

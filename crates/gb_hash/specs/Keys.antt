@@ -9,8 +9,8 @@ use Rattle.std.proofs.Common.{ap}
 use Rattle.gb_defs.specs.Slot.{Slot, Num, Bytes}
 use Rattle.gb_defs.specs.Hash.{hash_of}
 use Rattle.gb_defs.specs.Rows.{Rows, rows_of_slots}
-use Rattle.gb_cols.specs.Array.{native_slot, text_slot}
-use Rattle.gb_cols.specs.Keys.{bytes_slot}
+use Rattle.gb_values.specs.Array.{native_slot, text_slot}
+use Rattle.gb_values.specs.Keys.{bytes_slot}
 
 -- numbers, equal where they are one
 pub keys_decide_by : {N : Type 0} (eq : N → N → Bool) (number : N → ℤ) → ((a b : N) → Decides (eq a b) (number a ≡ number b)) →

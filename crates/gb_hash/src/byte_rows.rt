@@ -4,7 +4,7 @@ ghost use Rattle.std.specs.Prelude.{◌≡◌};
 ghost use Rattle.std.specs.Int.{w64};
 ghost use Rattle.gb_defs.specs.Rows.{rows_of_slots};
 ghost use Rattle.gb_defs.specs.Hash.{hash_of};
-ghost use Rattle.gb_cols.specs.Array.{text_slot};
+ghost use Rattle.gb_values.specs.Array.{text_slot};
 ghost use Rattle.gb_hash.specs.Keys.{texts_decide, slots_alike};
 
 use crate::dirty_hash::{hash_null, hash_text};

@@ -6,7 +6,7 @@ ghost use Rattle.std.specs.List.{fold};
 ghost use Rattle.gb_defs.specs.Hash.{fold_word, hash_bytes, hash_halves, hash_number, null_hash, words_of};
 
 use crate::mixer::Mixer;
-use gb_cols::numeric::Native;
+use gb_numbers::numeric::Native;
 
 // The hash so far, with one more word.
 #[inline]

@@ -6,15 +6,15 @@ ghost use Rattle.std.specs.Int.{Width, w64, w128};
 ghost use Rattle.gb_defs.specs.Slot.{Bytes, Slot};
 ghost use Rattle.gb_defs.specs.Hash.{hash_of};
 ghost use Rattle.gb_defs.specs.Rows.{rows_of_slots};
-ghost use Rattle.gb_cols.specs.Keys.{bytes_slot, key_slot};
-ghost use Rattle.gb_cols.specs.Native.{Decides-pos};
+ghost use Rattle.gb_values.specs.Keys.{bytes_slot, key_slot};
+ghost use Rattle.gb_numbers.specs.Native.{Decides-pos};
 ghost use Rattle.gb_hash.specs.Keys.{bytes_decide, numbers_decide, plain_bytes_decide, slots_alike};
 
 use crate::dirty_hash::{hash_null, hash_of_halves, hash_text, with_word};
 use crate::key_rows::{KeyRows, Steps};
 use crate::mixer::Mixer;
-use gb_cols::nullable::Values;
-use gb_cols::utf8::TextValues;
+use gb_values::nullable::Values;
+use gb_values::utf8::TextValues;
 use std::hash::Hash;
 use std::sync::ledger::Ledger;
 

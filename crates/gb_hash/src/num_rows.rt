@@ -3,16 +3,16 @@
 ghost use Rattle.std.specs.Prelude.{◌≡◌};
 ghost use Rattle.gb_defs.specs.Rows.{rows_of_slots};
 ghost use Rattle.gb_defs.specs.Hash.{hash_of};
-ghost use Rattle.gb_cols.specs.Array.{native_slot};
+ghost use Rattle.gb_values.specs.Array.{native_slot};
 ghost use Rattle.gb_hash.specs.Keys.{numbers_decide, slots_alike};
 
 use crate::dirty_hash::{DirtyHash, hash_null};
 use crate::key_rows::{KeyRows, Steps};
 use crate::mixer::Mixer;
 use gb_cols::chunked::ChunkedArray;
-use gb_cols::numeric::{Native, PolarsNumericType};
-use gb_cols::primitive::NumberValues;
 use gb_cols::series_trait::SeriesTrait;
+use gb_numbers::numeric::{Native, PolarsNumericType};
+use gb_values::primitive::NumberValues;
 use std::sync::ledger::Ledger;
 
 /// The rows of a column of numbers, with its numbers as keys.

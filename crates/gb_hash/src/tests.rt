@@ -2,7 +2,7 @@ use crate::combine::{_boost_hash_combine, folded_multiply, hash_to_partition};
 use crate::dirty_hash::DirtyHash;
 use crate::id_hasher::IdHasher;
 use crate::mixer::{Mixer, PlSeedableRandomStateQuality, SeedMixer};
-use gb_cols::numeric::Native;
+use gb_numbers::numeric::Native;
 use std::test::Fail;
 
 #[test]

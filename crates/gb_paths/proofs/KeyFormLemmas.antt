@@ -1,5 +1,5 @@
 -- Keys in a form of their own stand for the slots of a column.
-use Rattle.std.proofs.Common.{◌≡◌, inl, inr, ℕ, ◌<◌, true, false, List, length, map, All, Option, refl, sym, ◌∙◌, ap}
+use Rattle.std.proofs.Common.{◌≡◌, inl, inr, ℕ, ◌<◌, true, false, List, length, map, All, Option, Some, refl, sym, ◌∙◌, ap, subst}
 use Rattle.std.specs.Bool.{Decides}
 use Rattle.std.specs.Borrow.{Bor}
 use Rattle.std.specs.Global.{Global}
@@ -7,15 +7,16 @@ use Rattle.std.specs.Int.{Width, w8, w16, w32, w64, w128}
 use Rattle.std.specs.Prelude.{Vec}
 use Rattle.std.proofs.lemmas.Bool.Decides.{same_from_decides}
 use Rattle.std.proofs.lemmas.List.{get_or-map, length-map}
-use Rattle.gb_defs.specs.Column.{ColumnValue}
-use Rattle.gb_defs.specs.ColumnType.{FlatType, Flat}
+use Rattle.gb_defs.specs.Column.{ColumnValue, categories_of}
+use Rattle.gb_defs.specs.ColumnType.{ColumnType, FlatType, Flat, Unsigned}
 use Rattle.gb_defs.specs.Hash.{hash_of, hash_width, seed_mix}
-use Rattle.gb_defs.specs.Path.{Numbers, ByteLists, flat_kind, kind_of}
+use Rattle.gb_defs.specs.Path.{Codes, Numbers, ByteLists, flat_kind, kind_of}
 use Rattle.gb_defs.specs.Rows.{StandsFor, rows_of_slots}
 use Rattle.gb_defs.specs.Slot.{Slot, Nil, Num, Bytes, Items, slot_at, slot_eq}
 use Rattle.gb_defs.proofs.SlotLemmas.{Decides-slot_eq}
-use Rattle.gb_cols.specs.Keys.{AreWide, AreWords, IsToldByWide, IsToldByWord, bytes_slot, key_slot, number_from, wide_slot, with_number, word_slot}
-use Rattle.gb_cols.specs.Native.{IsWhole, is_wide, unwidened, unworded}
+use Rattle.gb_logical.proofs.CategoryLemmas.{has_texts}
+use Rattle.gb_values.specs.Keys.{AreWide, AreWords, IsToldByWide, IsToldByWord, bytes_slot, key_slot, number_from, wide_slot, with_number, word_slot}
+use Rattle.gb_numbers.specs.Native.{IsWhole, is_wide, unwidened, unworded}
 use Rattle.gb_paths.specs.Keys.{StandFor}
 use Rattle.gb_paths.specs.declared.into_groups.Keys.TheVariants.{Words, Wide}
 use Rattle.gb_paths.specs.declared.into_groups.Keys.TheVariants as keys
@@ -92,6 +93,30 @@ wide_width w16 wide = cc
 wide_width w32 wide = cc
 wide_width w64 wide = cc
 wide_width w128 wide = refl
+
+-- ---- the types of categories
+
+code_width : (t : ColumnType) (texts : List (List ℕ)) → categories_of t ≡ Some texts → hash_width t ≡ w64
+code_width t texts e = elim (has_texts t texts e).1 [
+  | inl same ↦ rw same refl
+  | inr same ↦ rw same refl
+]
+
+code_kind : (t : ColumnType) (texts : List (List ℕ)) → categories_of t ≡ Some texts → kind_of t ≡ Codes
+code_kind t texts e = elim (has_texts t texts e).1 [
+  | inl same ↦ rw same refl
+  | inr same ↦ rw same refl
+]
+
+-- codes stand for a column of categories
+pub codes_stand_for : (column codes : ColumnValue) (texts : List (List ℕ)) (words : Vec (Option ℕ) Global) → categories_of column.dtype ≡ Some texts → column.slots ≡ codes.slots →
+    AreWords (Unsigned w32) codes.slots words.items → StandFor column (keys.Codes words)
+codes_stand_for column codes texts words typed same stand =
+    let are = subst (λ slots. AreWords (Unsigned w32) slots words.items) (sym same) stand in
+    record {
+      rows = λ seed. rw (code_width column.dtype texts typed) (words_stand (Unsigned w32) column.slots words.items w64 seed seed_mix refl are);
+      kind = code_kind column.dtype texts typed;
+    }
 
 -- ---- keys stand for a column of a flat type
 

@@ -11,8 +11,8 @@ use Rattle.gb_defs.specs.Path.{KeyKind, Nulls, code_count, path_by_kind, path_gr
 use Rattle.gb_defs.specs.Rows.{rows_of_slots, same_slot_at}
 use Rattle.gb_defs.specs.Slot.{Nil, slot_at}
 use Rattle.std.specs.Int.{w64}
-use Rattle.gb_cols.specs.Pool.{partitions_of, threshold_of, workers_of}
-use Rattle.gb_cols.specs.declared.pool.Pool.{Pool}
+use Rattle.gb_base.specs.Pool.{partitions_of, threshold_of, workers_of}
+use Rattle.gb_base.specs.declared.pool.Pool.{Pool}
 use Rattle.gb_groups.specs.Slices.{slice_groups, slice_pairs}
 use Rattle.gb_paths.specs.Keys.{HasNoValues, null_rows}
 use Rattle.gb_paths.specs.Tuples.{column_rows, tuples_of}

@@ -5,8 +5,8 @@ use Rattle.gb_defs.specs.Groups.{Grouping}
 use Rattle.gb_defs.specs.Hash.{hash_width, seed_mix}
 use Rattle.gb_defs.specs.Rows.{Rows, rows_of_slots}
 use Rattle.gb_defs.specs.Path as path
-use Rattle.gb_cols.specs.Pool.{partitions_of, seed_of, threshold_of, workers_of}
-use Rattle.gb_cols.specs.declared.pool.Pool.{Pool}
+use Rattle.gb_base.specs.Pool.{partitions_of, seed_of, threshold_of, workers_of}
+use Rattle.gb_base.specs.declared.pool.Pool.{Pool}
 use Rattle.gb_paths.specs.declared.into_groups.Path.{Path}
 use Rattle.gb_paths.specs.declared.into_groups.Path.TheVariants.{Table, Threaded}
 

@@ -3,12 +3,12 @@
 ghost use Rattle.std.specs.Prelude.{◌≡◌, ℕ, ◌+◌, ◌<◌, ◌≤◌, IfOk, IfErr, OnOk};
 ghost use Rattle.gb_defs.specs.Groups.{HasRowNumbers, IsWellFormed};
 ghost use Rattle.gb_defs.specs.Rows.{table_groups};
-ghost use Rattle.gb_cols.specs.PlSmallStr.{IsNoMemory};
+ghost use Rattle.gb_base.specs.PlSmallStr.{IsNoMemory};
 ghost use Rattle.gb_groups.specs.GroupsType.{groups_of};
 
 use crate::row_groups::{all_rows, group_members};
 use crate::row_hashes::hash_rows;
-use gb_cols::error::PolarsResult;
+use gb_base::error::PolarsResult;
 use gb_groups::groups_idx::GroupsIdx;
 use gb_groups::groups_type::GroupsType;
 use gb_hash::key_rows::{KeyRows, Steps};

@@ -5,11 +5,11 @@ ghost use Rattle.std.specs.List.{All};
 ghost use Rattle.std.specs.List.Sorted.{IsNonDecreasing};
 ghost use Rattle.gb_defs.specs.Groups.{AreMembers, HasRowNumbers};
 ghost use Rattle.gb_defs.specs.Rows.{AreHashes};
-ghost use Rattle.gb_cols.specs.PlSmallStr.{IsNoMemory};
+ghost use Rattle.gb_base.specs.PlSmallStr.{IsNoMemory};
 ghost use Rattle.gb_paths.specs.Numbers.{AreEntries, groups_among, pairs_by};
 
-use gb_cols::error::PolarsResult;
-use gb_cols::nullable_idx::IdxSize;
+use gb_base::error::PolarsResult;
+use gb_base::nullable_idx::IdxSize;
 use gb_hash::group_table::GroupTable;
 use gb_hash::key_rows::{KeyRows, Steps};
 use std::alloc::Global;

@@ -1,42 +1,44 @@
 //! The groups of a column's rows: the keys of its rows in one of a few forms, the path by its type and
 //! length, and the groups by them. Rows of a type without values are one run.
 
-ghost use Rattle.std.specs.Prelude.{◌≡◌, ◌<◌, length, IfOk, IfErr, MatchOption};
+ghost use Rattle.std.specs.Prelude.{◌≡◌, ◌<◌, [], true, length, IfOk, IfErr, MatchOption};
 ghost use Rattle.std.specs.Thread.{IsSync};
-ghost use Rattle.gb_defs.specs.Groups.{HasRowNumbers, IsWellFormed};
+ghost use Rattle.gb_defs.specs.Groups.{HasRowNumbers, IsWellFormed, idx_groups};
 ghost use Rattle.gb_defs.specs.Path.{hashed_path, path_groups, run_groups};
-ghost use Rattle.gb_cols.specs.PlSmallStr.{IsNoMemory};
-ghost use Rattle.gb_cols.specs.Pool.{partitions_of, seed_of, threshold_of, workers_of};
+ghost use Rattle.gb_base.specs.PlSmallStr.{IsNoMemory};
+ghost use Rattle.gb_base.specs.Pool.{partitions_of, seed_of, threshold_of, workers_of};
 ghost use Rattle.gb_groups.specs.GroupsType.{groups_of};
 ghost use Rattle.gb_series.specs.Series.{value_of};
-ghost use Rattle.gb_paths.specs.Keys.{HasNoValues, StandFor, are_bytes, null_rows, rows_of_keys};
+ghost use Rattle.gb_paths.specs.Keys.{HasNoValues, StandFor, are_bytes, are_codes, null_rows, rows_of_keys};
 ghost use Rattle.gb_paths.specs.Tuples.{path_value, tuples_of};
 
 use crate::group_by::group_uncounted;
 use crate::threaded::group_by_threaded_iter;
-use gb_cols::binary::{Binary, BinaryOffset};
-use gb_cols::boolean::FlagValues;
-use gb_cols::bytes::ByteValues;
+use gb_base::device::Gate;
+use gb_base::error::PolarsResult;
+use gb_base::memory::FreeGate;
+use gb_base::nullable_idx::IdxSize;
+use gb_base::pool::Pool;
 use gb_cols::chunked::ChunkedArray;
-use gb_cols::device::Gate;
-use gb_cols::error::PolarsResult;
-use gb_cols::logical::{Logical, LogicalKind};
-use gb_cols::memory::FreeGate;
 use gb_cols::null::NullChunked;
-use gb_cols::nullable::Values;
-use gb_cols::nullable_idx::IdxSize;
-use gb_cols::numeric::{Native, PolarsNumericType};
-use gb_cols::pool::Pool;
-use gb_cols::primitive::NumberValues;
 use gb_cols::series_trait::SeriesTrait;
-use gb_cols::utf8::TextValues;
+use gb_groups::groups_idx::GroupsIdx;
 use gb_groups::groups_slice::GroupsSlice;
 use gb_groups::groups_type::GroupsType;
 use gb_hash::key_rows::KeyRows;
 use gb_hash::list_rows::{ListRows, TextRows};
 use gb_hash::mixer::SeedMixer;
+use gb_logical::categorical::CategoricalChunked;
+use gb_logical::logical::{Logical, LogicalKind};
+use gb_numbers::numeric::{Native, PolarsNumericType};
 use gb_series::of_column;
 use gb_series::series::Series;
+use gb_values::binary::{Binary, BinaryOffset};
+use gb_values::boolean::FlagValues;
+use gb_values::bytes::ByteValues;
+use gb_values::nullable::Values;
+use gb_values::primitive::NumberValues;
+use gb_values::utf8::TextValues;
 use std::alloc::Global;
 use std::thread::Threads;
 
@@ -96,6 +98,8 @@ pub fn group_tuples_gated<T: Threads + Sync, G: Gate + Sync>(
 pub enum Keys<'a> {
     /// Numbers of at most 64 bits, with their sign extended.
     Words(Vec<Option<u64>>),
+    /// Codes of categories.
+    Codes(Vec<Option<u64>>),
     /// Numbers of 128 bits.
     Wide(Vec<Option<u128>>),
     /// Texts in one buffer, none of them null.
@@ -110,9 +114,22 @@ impl<'a> Keys<'a> {
     {
         match self {
             Keys::Words(_) => false,
+            Keys::Codes(_) => false,
             Keys::Wide(_) => false,
             Keys::Texts(_) => true,
             Keys::Bytes(_) => true,
+        }
+    }
+
+    fn are_codes(&self) -> bool
+        ensures { result ≡ are_codes self.now }
+    {
+        match self {
+            Keys::Words(_) => false,
+            Keys::Codes(_) => true,
+            Keys::Wide(_) => false,
+            Keys::Texts(_) => false,
+            Keys::Bytes(_) => false,
         }
     }
 }
@@ -202,6 +219,14 @@ impl KeyColumn for NullChunked {
     }
 }
 
+impl KeyColumn for CategoricalChunked {
+    fn keys(&self) -> PolarsResult<Option<Keys<'_>>> {
+        // The call tells the column's type.
+        let _ = self.get_rev_map();
+        Ok(Some(Keys::Codes(self.physical().words()?)))
+    }
+}
+
 impl KeyColumn for Series {
     fn keys(&self) -> PolarsResult<Option<Keys<'_>>> {
         of_column!(self, column => column.keys())
@@ -252,6 +277,9 @@ pub fn group_column<T: Threads + Sync, C: KeyColumn, G: Gate + Sync>(
     let Some(keys) = column.keys()? else {
         return one_run(alloc, column.len());
     };
+    if keys.are_codes() && column.is_empty() {
+        return Ok(no_groups(alloc));
+    }
     let path = choose_path(keys.are_bytes(), column.len(), multithreaded, pool);
     group_keys(rt, alloc, &keys, path, sorted, pool, gate)
 }
@@ -271,6 +299,13 @@ fn one_run(alloc: Global, rows: usize) -> PolarsResult<GroupsType>
         groups: GroupsSlice::from_vec(runs),
         rolling: false,
     })
+}
+
+// No groups, which are in order.
+fn no_groups(alloc: Global) -> GroupsType
+    ensures { groups_of result ≡ idx_groups [] true }
+{
+    GroupsType::from(GroupsIdx::new(Vec::new(alloc), Vec::new(alloc), true))
 }
 
 // The groups of rows by keys in any form. What a thread may be sent is known of a type with a name, and
@@ -295,6 +330,10 @@ fn group_keys<T: Threads + Sync, G: Gate + Sync>(
     match keys {
         Keys::Words(words) => {
             let rows = ListRows::new(words.as_slice(), mixer);
+            group_rows(rt, alloc, &rows, path, sorted, pool, gate)
+        }
+        Keys::Codes(codes) => {
+            let rows = ListRows::new(codes.as_slice(), mixer);
             group_rows(rt, alloc, &rows, path, sorted, pool, gate)
         }
         Keys::Wide(words) => {

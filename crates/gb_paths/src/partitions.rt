@@ -5,13 +5,13 @@ ghost use Rattle.gb_defs.specs.Classes.{rows_below};
 ghost use Rattle.gb_defs.specs.Groups.{AreMembers, HasRowNumbers};
 ghost use Rattle.gb_defs.specs.Hash.{partition_of};
 ghost use Rattle.gb_defs.specs.Rows.{Rows, AreHashes};
-ghost use Rattle.gb_cols.specs.PlSmallStr.{IsNoMemory};
+ghost use Rattle.gb_base.specs.PlSmallStr.{IsNoMemory};
 ghost use Rattle.gb_groups.specs.Groups.{lists_of};
 ghost use Rattle.gb_paths.specs.Partitions.{AreWithin, rows_by_partition};
 
 use crate::row_groups::all_rows;
 use crate::row_lists::row_lists;
-use gb_cols::error::{PolarsError, PolarsResult};
+use gb_base::error::{PolarsError, PolarsResult};
 use gb_groups::groups_idx::IdxVec;
 use gb_hash::combine::hash_to_partition;
 use std::alloc::{AllocError, Global};

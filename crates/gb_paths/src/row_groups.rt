@@ -5,14 +5,14 @@ ghost use Rattle.std.specs.List.Sorted.{IsNonDecreasing};
 ghost use Rattle.gb_defs.specs.Classes.{rows_below};
 ghost use Rattle.gb_defs.specs.Groups.{AreMembers, HasRowNumbers};
 ghost use Rattle.gb_defs.specs.Rows.{AreHashes};
-ghost use Rattle.gb_cols.specs.PlSmallStr.{IsNoMemory};
+ghost use Rattle.gb_base.specs.PlSmallStr.{IsNoMemory};
 ghost use Rattle.gb_groups.specs.Groups.{lists_of};
 ghost use Rattle.gb_paths.specs.Numbers.{groups_among};
 
 use crate::group_numbers::number_groups;
 use crate::row_lists::row_lists;
-use gb_cols::error::PolarsResult;
-use gb_cols::nullable_idx::IdxSize;
+use gb_base::error::PolarsResult;
+use gb_base::nullable_idx::IdxSize;
 use gb_groups::groups_idx::IdxVec;
 use gb_hash::key_rows::{KeyRows, Steps};
 use std::alloc::{AllocError, Global};

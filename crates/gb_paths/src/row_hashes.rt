@@ -2,11 +2,11 @@
 
 ghost use Rattle.std.specs.Prelude.{◌≡◌, ℕ, ◌+◌, ◌<◌, IfErr, IfOk, length, slice_index_or};
 ghost use Rattle.gb_defs.specs.Rows.{AreHashes};
-ghost use Rattle.gb_cols.specs.PlSmallStr.{IsNoMemory};
+ghost use Rattle.gb_base.specs.PlSmallStr.{IsNoMemory};
 ghost use Rattle.gb_paths.specs.Partitions.{HasRows};
 
-use gb_cols::error::PolarsResult;
-use gb_cols::pool::Pool;
+use gb_base::error::PolarsResult;
+use gb_base::pool::Pool;
 use gb_hash::key_rows::KeyRows;
 use std::alloc::{AllocError, Global};
 use std::thread::{self, Threads};

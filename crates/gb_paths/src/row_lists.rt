@@ -5,7 +5,7 @@ ghost use Rattle.std.specs.List.{All, AllZip};
 ghost use Rattle.gb_groups.specs.Groups.{lists_of};
 ghost use Rattle.gb_paths.specs.Numbers.{lists_by, counts_by, IsRoomFor};
 
-use gb_cols::nullable_idx::IdxSize;
+use gb_base::nullable_idx::IdxSize;
 use gb_groups::groups_idx::IdxVec;
 use smallvec::SmallVec;
 use std::alloc::{AllocError, Global};

@@ -4,7 +4,7 @@
 ghost use Rattle.std.specs.Prelude.{◌≡◌, ◌+◌, ◌<◌, ◌≤◌, map, length, take, drop, IfOk, IfErr};
 ghost use Rattle.gb_defs.specs.Groups.{AreMembers, HasRowNumbers, IsWellFormed};
 ghost use Rattle.gb_defs.specs.Rows.{AreHashes, hashed_groups, rows_of_slots};
-ghost use Rattle.gb_cols.specs.PlSmallStr.{IsNoMemory};
+ghost use Rattle.gb_base.specs.PlSmallStr.{IsNoMemory};
 ghost use Rattle.gb_groups.specs.Groups.{lists_of, pairs_of};
 ghost use Rattle.gb_groups.specs.GroupsType.{groups_of};
 ghost use Rattle.gb_hash.specs.Keys.{key_slots};
@@ -14,10 +14,10 @@ ghost use Rattle.gb_paths.specs.Partitions.{AreListed, groups_of_lists, groups_o
 use crate::partitions::partition_rows;
 use crate::row_groups::group_members;
 use crate::row_hashes::hash_rows_par;
-use gb_cols::device::Gate;
-use gb_cols::error::PolarsResult;
-use gb_cols::nullable_idx::IdxSize;
-use gb_cols::pool::Pool;
+use gb_base::device::Gate;
+use gb_base::error::PolarsResult;
+use gb_base::nullable_idx::IdxSize;
+use gb_base::pool::Pool;
 use gb_flat::shares::{join_shares, map_shares};
 use gb_groups::groups_idx::{GroupsIdx, IdxItem, IdxVec};
 use gb_groups::groups_type::GroupsType;

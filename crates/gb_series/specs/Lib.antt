@@ -1,2 +1,4 @@
 pub mod Frame
 pub mod Series
+pub mod Value
+pub mod Variant

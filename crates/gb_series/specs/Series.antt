@@ -1,7 +1,10 @@
--- What contracts see of a column of any type.
+-- What contracts see of a column of any type, and the types that columns have.
+use Rattle.std.specs.Prelude.{IsSome}
+use Rattle.gb_base.specs.declared.data_type.DataType.{DataType}
+use Rattle.gb_base.specs.declared.data_type.DataType.TheVariants as dtype
 use Rattle.gb_defs.specs.Column.{ColumnValue}
 use Rattle.gb_series.specs.declared.series.Series.{Series}
-use Rattle.gb_series.specs.declared.series.Series.TheVariants.{Null, Boolean, UInt8, UInt16, UInt32, UInt64, Int8, Int16, Int32, Int64, Int128, Decimal, Date, Datetime, Duration, Time, String, Binary, BinaryOffset}
+use Rattle.gb_series.specs.declared.series.Series.TheVariants.{Null, Boolean, UInt8, UInt16, UInt32, UInt64, Int8, Int16, Int32, Int64, Int128, Decimal, Date, Datetime, Duration, Time, String, Binary, BinaryOffset, Categorical}
 
 abbrev pub value_of : Series → ColumnValue
 value_of (Null c) = c
@@ -23,3 +26,25 @@ value_of (Time c) = c
 value_of (String c) = c
 value_of (Binary c) = c
 value_of (BinaryOffset c) = c
+value_of (Categorical c) = c
+
+-- a series of the type is made by the type alone: of all but categories, whose texts make it, and nested
+-- types today; a decimal type has its scale
+abbrev pub HasColumn : DataType → Type 0
+HasColumn (dtype.Categorical map ordering) = ⊥
+HasColumn (dtype.Enum map ordering) = ⊥
+HasColumn (dtype.Decimal precision scale) = IsSome scale
+HasColumn (dtype.List' room inner) = ⊥
+HasColumn (dtype.Array' room inner width) = ⊥
+HasColumn (dtype.Struct' room row) = ⊥
+HasColumn _ = Unit {0}
+
+-- nulls are made by the type alone, of each type that has columns today: a category type has its texts
+abbrev pub HasNulls : DataType → Type 0
+HasNulls (dtype.Categorical map ordering) = IsSome map
+HasNulls (dtype.Enum map ordering) = IsSome map
+HasNulls (dtype.Decimal precision scale) = IsSome scale
+HasNulls (dtype.List' room inner) = ⊥
+HasNulls (dtype.Array' room inner width) = ⊥
+HasNulls (dtype.Struct' room row) = ⊥
+HasNulls _ = Unit {0}

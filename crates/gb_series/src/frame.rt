@@ -2,15 +2,15 @@
 
 ghost use Rattle.std.specs.Prelude.{◌≡◌, ◌==◌, ℕ, ◌<◌, ◌^◌, length, map, None, Some, IfOk, IfErr, IfSome, IfNone, All, option_map, slice_get};
 ghost use Rattle.gb_defs.specs.Column.{all_have_length as are_all_long, find_column, first_repeated, frame_height, names_of, IsFrame};
-ghost use Rattle.gb_cols.specs.PlSmallStr.{name_of, IsNoMemory};
-ghost use Rattle.gb_cols.specs.PolarsError.{Explains};
+ghost use Rattle.gb_base.specs.PlSmallStr.{name_of, IsNoMemory};
+ghost use Rattle.gb_base.specs.PolarsError.{Explains};
 ghost use Rattle.gb_series.specs.Series.{value_of};
 
 use crate::series::{Column, Series};
-use gb_cols::error::{PolarsError, PolarsResult};
-use gb_cols::nullable_idx::IdxSize;
+use gb_base::error::{PolarsError, PolarsResult};
+use gb_base::nullable_idx::IdxSize;
+use gb_base::small_str::PlSmallStr;
 use gb_cols::series_trait::SeriesTrait;
-use gb_cols::small_str::PlSmallStr;
 use std::collections::HashSet;
 use std::marker::Model;
 

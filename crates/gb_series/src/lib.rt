@@ -2,6 +2,9 @@
 #![tactic(auto)]
 
 pub mod frame;
+mod of_type;
 pub mod series;
 #[cfg(test)]
 mod tests;
+mod value;
+mod variant;

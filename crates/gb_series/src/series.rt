@@ -1,28 +1,27 @@
 //! A column of any type.
 
-ghost use Rattle.std.specs.Prelude.{◌≡◌, [], IfOk, IfErr, Some};
-ghost use Rattle.gb_defs.specs.Column.{ColumnValue, fresh_column};
-ghost use Rattle.gb_defs.specs.ColumnType.{Decimal, Flat};
-ghost use Rattle.gb_cols.specs.DataType.{HasColumn, type_of};
-ghost use Rattle.gb_cols.specs.PlSmallStr.{name_of};
+ghost use Rattle.std.specs.Prelude.{◌≡◌, ◌<◌, Some};
+ghost use Rattle.gb_defs.specs.Column.{ColumnValue};
+ghost use Rattle.gb_defs.specs.ColumnType.{Decimal};
 
+use gb_base::data_type::{DataType, IsSorted};
+use gb_base::error::PolarsResult;
+use gb_base::nullable_idx::IdxSize;
+use gb_base::small_str::PlSmallStr;
 use gb_cols::binary::{BinaryChunked, BinaryOffsetChunked};
 use gb_cols::boolean::BooleanChunked;
-use gb_cols::chunked::{ChunkedArray, StringChunked};
-use gb_cols::data_type::{DataType, IsSorted};
-use gb_cols::error::PolarsResult;
-use gb_cols::logical::{
-    DateChunked, DatetimeChunked, DecimalChunked, DurationChunked, TimeChunked,
-};
+use gb_cols::chunked::StringChunked;
 use gb_cols::null::NullChunked;
-use gb_cols::nullable_idx::IdxSize;
-use gb_cols::numeric::{
+use gb_cols::primitive::{
     Int8Chunked, Int16Chunked, Int32Chunked, Int64Chunked, Int128Chunked, UInt8Chunked,
     UInt16Chunked, UInt32Chunked, UInt64Chunked,
 };
 use gb_cols::series_trait::SeriesTrait;
-use gb_cols::slot_order::SlotOrder;
-use gb_cols::small_str::PlSmallStr;
+use gb_logical::categorical::CategoricalChunked;
+use gb_logical::logical::{
+    DateChunked, DatetimeChunked, DecimalChunked, DurationChunked, TimeChunked,
+};
+use gb_values::slot_order::SlotOrder;
 use std::alloc::{AllocError, Global};
 
 /// A named column of any type.
@@ -47,6 +46,7 @@ pub enum Series {
     String(StringChunked),
     Binary(BinaryChunked),
     BinaryOffset(BinaryOffsetChunked),
+    Categorical(CategoricalChunked),
 }
 
 pub type Column = Series;
@@ -75,6 +75,7 @@ macro_rules! of_column {
             $crate::series::Series::String($column) => $call,
             $crate::series::Series::Binary($column) => $call,
             $crate::series::Series::BinaryOffset($column) => $call,
+            $crate::series::Series::Categorical($column) => $call,
         }
     };
 }
@@ -103,6 +104,7 @@ macro_rules! map_column {
             $crate::series::Series::String($column) => $crate::series::Series::String($call),
             $crate::series::Series::Binary($column) => $crate::series::Series::Binary($call),
             $crate::series::Series::BinaryOffset($column) => $crate::series::Series::BinaryOffset($call),
+            $crate::series::Series::Categorical($column) => $crate::series::Series::Categorical($call),
         }
     };
 }
@@ -188,60 +190,23 @@ macro_rules! map_sums {
                 Some(sums) => Ok(Some($crate::series::Series::BinaryOffset(sums))),
                 None => Ok(None),
             },
+            $crate::series::Series::Categorical($column) => match $call {
+                Some(sums) => Ok(Some($crate::series::Series::Categorical(sums))),
+                None => Ok(None),
+            },
         }
     };
 }
 
-impl Series {
-    ghost use Rattle.gb_series.specs.Series.{value_of};
-
-    /// A column with no slots.
-    pub fn new_empty(alloc: Global, name: PlSmallStr, dtype: DataType) -> Series
-        requires { HasColumn dtype }
-        ensures { value_of result ≡ fresh_column (name_of name) (type_of dtype) [] }
-    {
-        match dtype {
-            DataType::Null => Series::Null(NullChunked::new(alloc, name, 0)),
-            DataType::Boolean => Series::Boolean(ChunkedArray::new(alloc, name)),
-            DataType::UInt8 => Series::UInt8(ChunkedArray::new(alloc, name)),
-            DataType::UInt16 => Series::UInt16(ChunkedArray::new(alloc, name)),
-            DataType::UInt32 => Series::UInt32(ChunkedArray::new(alloc, name)),
-            DataType::UInt64 => Series::UInt64(ChunkedArray::new(alloc, name)),
-            DataType::Int8 => Series::Int8(ChunkedArray::new(alloc, name)),
-            DataType::Int16 => Series::Int16(ChunkedArray::new(alloc, name)),
-            DataType::Int32 => Series::Int32(ChunkedArray::new(alloc, name)),
-            DataType::Int64 => Series::Int64(ChunkedArray::new(alloc, name)),
-            DataType::Int128 => Series::Int128(ChunkedArray::new(alloc, name)),
-            DataType::Decimal(precision, scale) => match scale {
-                Some(scale) => Series::Decimal(decimals(alloc, name, precision, scale)),
-                None => unreachable!(),
-            },
-            DataType::Date => Series::Date(DateChunked::new(ChunkedArray::new(alloc, name))),
-            DataType::Datetime(unit) => {
-                Series::Datetime(DatetimeChunked::new(ChunkedArray::new(alloc, name), unit))
-            }
-            DataType::Duration(unit) => {
-                Series::Duration(DurationChunked::new(ChunkedArray::new(alloc, name), unit))
-            }
-            DataType::Time => Series::Time(TimeChunked::new(ChunkedArray::new(alloc, name))),
-            DataType::String => Series::String(ChunkedArray::new(alloc, name)),
-            DataType::Binary => Series::Binary(ChunkedArray::new(alloc, name)),
-            DataType::BinaryOffset => Series::BinaryOffset(ChunkedArray::new(alloc, name)),
+// What appending gives where both columns are of one variant.
+macro_rules! append_as {
+    ($variant:ident, $column:expr, $other:expr) => {
+        match $other {
+            Series::$variant(other) => $column.append(other),
+            // A type is that of one variant.
+            _ => unreachable!(),
         }
-    }
-}
-
-// A column of decimals with no slots.
-fn decimals(
-    alloc: Global,
-    name: PlSmallStr,
-    precision: Option<usize>,
-    scale: usize,
-) -> DecimalChunked
-    ensures { let dtype = Flat (Decimal precision (Some scale)) in
-        result ≡ fresh_column (name_of name) dtype [] }
-{
-    DecimalChunked::new(ChunkedArray::new(alloc, name), precision, scale)
+    };
 }
 
 impl SeriesTrait for Series {
@@ -323,8 +288,39 @@ impl SeriesTrait for Series {
         of_column!(self, column => column.push_cell(cell, is_text, null_word))
     }
 
+    fn reads_cell(&self, cell: &[u8], is_text: bool, null_word: &str) -> bool {
+        of_column!(self, column => column.reads_cell(cell, is_text, null_word))
+    }
+
     fn write_cell(&self, row: usize, null_word: &str, to: &mut Vec<u8>) -> Result<(), AllocError> {
         of_column!(self, column => column.write_cell(row, null_word, to))
+    }
+
+    fn append(&mut self, other: Series) -> PolarsResult<()> {
+        self.tell_variant();
+        other.tell_variant();
+        match self {
+            Series::Null(column) => append_as!(Null, column, other),
+            Series::Boolean(column) => append_as!(Boolean, column, other),
+            Series::UInt8(column) => append_as!(UInt8, column, other),
+            Series::UInt16(column) => append_as!(UInt16, column, other),
+            Series::UInt32(column) => append_as!(UInt32, column, other),
+            Series::UInt64(column) => append_as!(UInt64, column, other),
+            Series::Int8(column) => append_as!(Int8, column, other),
+            Series::Int16(column) => append_as!(Int16, column, other),
+            Series::Int32(column) => append_as!(Int32, column, other),
+            Series::Int64(column) => append_as!(Int64, column, other),
+            Series::Int128(column) => append_as!(Int128, column, other),
+            Series::Decimal(column) => append_as!(Decimal, column, other),
+            Series::Date(column) => append_as!(Date, column, other),
+            Series::Datetime(column) => append_as!(Datetime, column, other),
+            Series::Duration(column) => append_as!(Duration, column, other),
+            Series::Time(column) => append_as!(Time, column, other),
+            Series::String(column) => append_as!(String, column, other),
+            Series::Binary(column) => append_as!(Binary, column, other),
+            Series::BinaryOffset(column) => append_as!(BinaryOffset, column, other),
+            Series::Categorical(column) => append_as!(Categorical, column, other),
+        }
     }
 
     fn take(&self, rows: &[IdxSize]) -> PolarsResult<Series> {
@@ -508,5 +504,13 @@ impl IntoSeries for BinaryOffsetChunked {
 
     fn into_series(self) -> Series {
         Series::BinaryOffset(self)
+    }
+}
+
+impl IntoSeries for CategoricalChunked {
+    ghost column = { λ c. c };
+
+    fn into_series(self) -> Series {
+        Series::Categorical(self)
     }
 }

@@ -1,82 +1,94 @@
-//! Each public call of the crate once.
+//! Each public call of the crate once. A check pays for each value that a function may let go, and a series
+//! may hold any type: so a function owns one series at most, and others look at it.
 
 use crate::frame::DataFrame;
-use crate::series::{IntoSeries, Series};
-use gb_cols::chunked::{Int64Chunked, StringChunked, UInt32Chunked};
-use gb_cols::data_type::{DataType, IsSorted};
-use gb_cols::error::{PolarsError, PolarsResult};
+use crate::series::{Column, IntoSeries, Series};
+use gb_base::any_value::AnyValue;
+use gb_base::data_type::{CategoricalOrdering, DataType, IsSorted};
+use gb_base::error::{PolarsError, PolarsResult};
+use gb_base::small_str::PlSmallStr;
+use gb_cols::chunked::StringChunked;
+use gb_cols::primitive::{Int64Chunked, UInt32Chunked};
 use gb_cols::series_trait::SeriesTrait;
-use gb_cols::small_str::PlSmallStr;
+use gb_logical::categorical::CategoricalChunked;
 use std::alloc::Global;
 use std::test::Fail;
+
+// ---- columns
 
 fn numbers(alloc: Global, name: &str, values: &[i64]) -> PolarsResult<Series> {
     let name = PlSmallStr::from_str(alloc, name)?;
     Ok(Int64Chunked::from_slice(alloc, name, values)?.into_series())
 }
 
-fn two_columns(alloc: Global, name: &str, values: &[i64]) -> PolarsResult<Vec<Series>> {
-    let mut columns = Vec::new(alloc);
-    columns.push(numbers(alloc, "a", &[1, 2])?)?;
-    columns.push(numbers(alloc, name, values)?)?;
-    Ok(columns)
+// Whether a test holds of a column.
+fn holds_of<F: Fn(&Series) -> bool>(column: PolarsResult<Series>, test: F) -> bool
+    requires { F.IsAlwaysCallable test }
+{
+    match column {
+        Ok(column) => test(&column),
+        Err(_) => false,
+    }
 }
 
-#[test]
-fn a_frame_of_two(rt: HostRuntime) -> Result<(), Fail> {
-    let frame = DataFrame::new(two_columns(rt.alloc(), "b", &[3, 4])?)?;
-    assert_eq!(rt;
-        (frame.height(), frame.width(), frame.is_empty()),
-        (2, 2, false)
-    );
-    assert_eq!(rt; frame.position("b"), Some(1));
-    assert_eq!(rt; frame.column("b")?.name().as_str(), "b");
-    assert!(rt; matches!(frame.column("c"), Err(PolarsError::ColumnNotFound(_))));
-    let taken = frame.take(&[1, 0, 1])?;
-    assert_eq!(rt; (taken.height(), taken.get_columns().len()), (3, 2));
-    Ok(())
+fn has_type(column: &Series, dtype: &DataType) -> bool {
+    match column.dtype() {
+        Ok(found) => found == *dtype,
+        Err(_) => false,
+    }
 }
 
-#[test]
-fn frames_refused(rt: HostRuntime) -> Result<(), Fail> {
-    let alloc = rt.alloc();
-    assert!(rt;
-        matches!(
-            DataFrame::new(two_columns(alloc, "a", &[3])?),
-            Err(PolarsError::Duplicate(_))
-        )
-    );
-    assert!(rt;
-        matches!(
-            DataFrame::new(two_columns(alloc, "b", &[3])?),
-            Err(PolarsError::ShapeMismatch)
-        )
-    );
-    Ok(())
+fn no_texts(alloc: Global) -> PolarsResult<Series> {
+    let name = PlSmallStr::from_str(alloc, "t")?;
+    Ok(StringChunked::new(alloc, name).into_series())
+}
+
+fn one_and_null(alloc: Global) -> PolarsResult<Series> {
+    let name = PlSmallStr::from_str(alloc, "u")?;
+    Ok(UInt32Chunked::from_slice_options(alloc, name, &[Some(1), None])?.into_series())
+}
+
+fn renamed(alloc: Global) -> PolarsResult<Series> {
+    let name = PlSmallStr::from_str(alloc, "s")?;
+    let mut column = no_texts(alloc)?;
+    column.rename(name);
+    Ok(column)
+}
+
+fn is_empty_text(column: &Series) -> bool {
+    column.is_empty() && has_type(column, &DataType::String)
+}
+
+fn has_a_null(column: &Series) -> bool {
+    column.len() == 2 && column.null_count() == 1 && has_type(column, &DataType::UInt32)
 }
 
 #[test]
 fn columns_of_each_type(rt: HostRuntime) -> Result<(), Fail> {
-    let alloc = rt.alloc();
-    let mut column = StringChunked::new(alloc, PlSmallStr::from_str(alloc, "t")?).into_series();
-    assert_eq!(rt;
-        (column.dtype()?, column.is_empty()),
-        (DataType::String, true)
-    );
-    column.rename(PlSmallStr::from_str(alloc, "s")?);
-    assert_eq!(rt; column.name().as_str(), "s");
-    let name = PlSmallStr::from_str(alloc, "u")?;
-    let column = UInt32Chunked::from_slice_options(alloc, name, &[Some(1), None])?.into_series();
-    assert_eq!(rt;
-        (column.dtype()?, column.len(), column.null_count()),
-        (DataType::UInt32, 2, 1)
-    );
+    assert!(rt; holds_of(no_texts(rt.alloc()), is_empty_text));
+    assert!(rt; holds_of(renamed(rt.alloc()), |column| column.name().as_str() == "s"));
+    assert!(rt; holds_of(one_and_null(rt.alloc()), has_a_null));
     Ok(())
 }
 
-// A column of one value with a null more.
-fn with_null(mut column: Series) -> PolarsResult<Series> {
-    if column.len() == 1 {
+fn two_nulls(alloc: Global) -> PolarsResult<Series> {
+    Series::full_null(alloc, PlSmallStr::from_str(alloc, "n")?, 2, DataType::Int32)
+}
+
+fn are_two_nulls(column: &Series) -> bool {
+    column.len() == 2 && column.null_count() == 2 && has_type(column, &DataType::Int32)
+}
+
+#[test]
+fn nulls_alone(rt: HostRuntime) -> Result<(), Fail> {
+    assert!(rt; holds_of(two_nulls(rt.alloc()), are_two_nulls));
+    Ok(())
+}
+
+// Values with a null behind them.
+fn with_null(alloc: Global, values: &[i64]) -> PolarsResult<Series> {
+    let mut column = numbers(alloc, "a", values)?;
+    if column.len() < 9 {
         column.push_null()?;
     }
     Ok(column)
@@ -92,91 +104,219 @@ fn ends_in_null(column: &Series) -> bool {
 
 #[test]
 fn a_null_more(rt: HostRuntime) -> Result<(), Fail> {
-    let column = with_null(numbers(rt.alloc(), "a", &[7])?)?;
-    assert!(rt; ends_in_null(&column));
+    assert!(rt; holds_of(with_null(rt.alloc(), &[7]), ends_in_null));
     Ok(())
 }
 
-// A column of two values with a null more.
-fn two_and_null(alloc: Global) -> PolarsResult<Series> {
-    let mut column = numbers(alloc, "a", &[7, 8])?;
-    if column.len() == 2 {
-        column.push_null()?;
+fn has_one_chunk(column: &Series) -> bool {
+    match column.chunk_lengths() {
+        Ok(lengths) => lengths.as_slice() == [3].as_slice() && column.n_chunks() == 1,
+        Err(_) => false,
     }
-    Ok(column)
 }
 
-// Whether its one chunk and the ends of its values are found.
-fn chunks_are_counted(column: &Series) -> PolarsResult<bool> {
-    let lengths = column.chunk_lengths()?;
-    Ok(
-        lengths.as_slice() == [3].as_slice()
-            && column.n_chunks() == 1
-            && column.has_nulls()
-            && column.first_non_null() == Some(0)
-            && column.last_non_null() == Some(1),
+fn has_ends(column: &Series) -> bool {
+    column.has_nulls() && column.first_non_null() == Some(0) && column.last_non_null() == Some(1)
+}
+
+fn part_is_a_value(column: &Series) -> bool {
+    holds_of(
+        column.slice(-2, 1),
+        |part| part.len() == 1 && part.null_count() == 0,
     )
 }
 
-fn part_is_a_value(column: &Series) -> PolarsResult<bool> {
-    let part = column.slice(-2, 1)?;
-    Ok(part.len() == 1 && part.null_count() == 0)
+fn copies_are_as_long(column: &Series) -> bool {
+    holds_of(column.rechunk(), |copy| copy.len() == 3)
+        && holds_of(column.try_clone(), |copy| copy.len() == 3)
 }
 
-fn copies_are_as_long(column: &Series) -> PolarsResult<bool> {
-    let whole = column.rechunk()?.len();
-    Ok(whole == 3 && column.try_clone()?.len() == 3)
-}
-
-fn null_is_repeated(column: &Series) -> PolarsResult<bool> {
-    if column.len() != 3 {
-        return Ok(false);
-    }
-    Ok(column.new_from_index(2, 4)?.null_count() == 4)
-}
-
-fn parts_and_copies_are_right(column: &Series) -> PolarsResult<bool> {
-    Ok(
-        chunks_are_counted(column)?
-            && part_is_a_value(column)?
-            && copies_are_as_long(column)?
-            && null_is_repeated(column)?,
-    )
-}
-
-fn parts_of_two_and_null(alloc: Global) -> PolarsResult<bool> {
-    let column = two_and_null(alloc)?;
-    parts_and_copies_are_right(&column)
+fn null_is_repeated(column: &Series) -> bool {
+    column.len() == 3 && holds_of(column.new_from_index(2, 4), |nulls| nulls.null_count() == 4)
 }
 
 #[test]
 fn parts_and_copies(rt: HostRuntime) -> Result<(), Fail> {
-    assert!(rt; parts_of_two_and_null(rt.alloc())?);
+    let alloc = rt.alloc();
+    assert!(rt; holds_of(with_null(alloc, &[7, 8]), has_one_chunk));
+    assert!(rt; holds_of(with_null(alloc, &[7, 8]), has_ends));
+    assert!(rt; holds_of(with_null(alloc, &[7, 8]), part_is_a_value));
+    assert!(rt; holds_of(with_null(alloc, &[7, 8]), copies_are_as_long));
+    assert!(rt; holds_of(with_null(alloc, &[7, 8]), null_is_repeated));
     Ok(())
 }
 
-// Whether the column ascends, and takes the flag for it.
-fn takes_ascending(column: &mut Series) -> bool {
-    if !column.check_sorted(IsSorted::Ascending) {
-        return false;
+// Puts a copy of a short column behind itself.
+fn append_copy(column: &mut Series) -> PolarsResult<()> {
+    if column.len() > 9 {
+        return Ok(());
     }
-    column.set_sorted_flag(IsSorted::Ascending);
-    column.is_sorted_ascending_flag()
+    let copy = column.try_clone()?;
+    column.append(copy)
 }
 
-fn ascending_is_taken(alloc: Global) -> PolarsResult<bool> {
-    let mut column = numbers(alloc, "a", &[7, 8])?;
-    Ok(takes_ascending(&mut column))
+fn doubled(alloc: Global, values: &[i64]) -> PolarsResult<Series> {
+    let mut column = numbers(alloc, "a", values)?;
+    append_copy(&mut column)?;
+    Ok(column)
 }
 
-fn is_detected(alloc: Global, values: &[i64], found: IsSorted) -> PolarsResult<bool> {
-    Ok(numbers(alloc, "a", values)?.detect_sorted() == found)
+#[test]
+fn two_columns_are_one(rt: HostRuntime) -> Result<(), Fail> {
+    assert!(rt;
+        holds_of(doubled(rt.alloc(), &[7, 8]), |column| {
+            column.len() == 4 && column.n_chunks() == 2 && column.first_non_null() == Some(0)
+        })
+    );
+    Ok(())
+}
+
+// The column with the flag for ascending slots, where they ascend.
+fn flagged(alloc: Global, values: &[i64]) -> PolarsResult<Series> {
+    let mut column = numbers(alloc, "a", values)?;
+    if column.check_sorted(IsSorted::Ascending) {
+        column.set_sorted_flag(IsSorted::Ascending);
+    }
+    Ok(column)
+}
+
+fn is_detected(alloc: Global, values: &[i64], found: IsSorted) -> bool {
+    holds_of(
+        numbers(alloc, "a", values),
+        |column| column.detect_sorted() == found,
+    )
 }
 
 #[test]
 fn orders(rt: HostRuntime) -> Result<(), Fail> {
-    assert!(rt; ascending_is_taken(rt.alloc())?);
-    assert!(rt; is_detected(rt.alloc(), &[8, 7], IsSorted::Descending)?);
-    assert!(rt; is_detected(rt.alloc(), &[7, 8, 7], IsSorted::Not)?);
+    let alloc = rt.alloc();
+    assert!(rt; holds_of(flagged(alloc, &[7, 8]), |c| c.is_sorted_ascending_flag()));
+    assert!(rt; holds_of(flagged(alloc, &[8, 7]), |c| !c.is_sorted_any()));
+    assert!(rt; is_detected(alloc, &[8, 7], IsSorted::Descending));
+    assert!(rt; is_detected(alloc, &[7, 8, 7], IsSorted::Not));
+    Ok(())
+}
+
+// ---- values
+
+// The texts b, null, a and b as categories.
+fn categories(alloc: Global) -> PolarsResult<Series> {
+    let mut texts = StringChunked::new(alloc, PlSmallStr::from_str(alloc, "c")?);
+    texts.push(Some("b"))?;
+    texts.push(None)?;
+    texts.push(Some("a"))?;
+    texts.push(Some("b"))?;
+    let codes = CategoricalChunked::from_strings(&texts, CategoricalOrdering::Physical)?;
+    Ok(codes.into_series())
+}
+
+fn one_text(alloc: Global) -> PolarsResult<Series> {
+    let mut texts = StringChunked::new(alloc, PlSmallStr::from_str(alloc, "t")?);
+    texts.push(Some("x"))?;
+    Ok(texts.into_series())
+}
+
+// Whether a row holds a value.
+fn is_at(column: &Series, row: usize, value: &AnyValue) -> bool {
+    if row >= column.len() {
+        return false;
+    }
+    match column.get(row) {
+        Ok(found) => found == *value,
+        Err(_) => false,
+    }
+}
+
+fn has_codes(column: &Series) -> bool {
+    is_at(column, 0, &AnyValue::Category(0))
+        && is_at(column, 1, &AnyValue::Null)
+        && is_at(column, 2, &AnyValue::Category(1))
+        && is_at(column, 3, &AnyValue::Category(0))
+}
+
+#[test]
+fn values_of_rows(rt: HostRuntime) -> Result<(), Fail> {
+    let alloc = rt.alloc();
+    assert!(rt; holds_of(categories(alloc), has_codes));
+    let text = AnyValue::String(PlSmallStr::from_str(alloc, "x")?);
+    assert!(rt; holds_of(one_text(alloc), |column| is_at(column, 0, &text)));
+    let number = AnyValue::Int64(-1);
+    assert!(rt;
+        holds_of(
+            numbers(alloc, "n", &[-1]),
+            |column| is_at(column, 0, &number)
+        )
+    );
+    Ok(())
+}
+
+// ---- frames
+
+fn frame_of(alloc: Global, name: &str, values: &[i64]) -> PolarsResult<DataFrame> {
+    let mut columns = Vec::with_capacity(alloc, 2)?;
+    columns.push(numbers(alloc, "a", &[1, 2])?)?;
+    columns.push(numbers(alloc, name, values)?)?;
+    DataFrame::new(columns)
+}
+
+// Whether a test holds of a frame.
+fn holds_of_frame<F: Fn(&DataFrame) -> bool>(frame: PolarsResult<DataFrame>, test: F) -> bool
+    requires { F.IsAlwaysCallable test }
+{
+    match frame {
+        Ok(frame) => test(&frame),
+        Err(_) => false,
+    }
+}
+
+fn is_two_by_two(frame: &DataFrame) -> bool {
+    frame.height() == 2 && frame.width() == 2 && !frame.is_empty()
+}
+
+fn is_named(found: PolarsResult<&Column>, name: &str) -> bool {
+    match found {
+        Ok(column) => column.name().as_str() == name,
+        Err(_) => false,
+    }
+}
+
+fn is_missing(found: PolarsResult<&Column>) -> bool {
+    matches!(found, Err(PolarsError::ColumnNotFound(_)))
+}
+
+fn finds_columns(frame: &DataFrame) -> bool {
+    frame.position("b") == Some(1)
+        && is_named(frame.column("b"), "b")
+        && is_missing(frame.column("c"))
+}
+
+fn takes_rows(frame: &DataFrame) -> bool {
+    frame.height() == 2
+        && holds_of_frame(frame.take(&[1, 0, 1]), |taken| {
+            taken.height() == 3 && taken.get_columns().len() == 2
+        })
+}
+
+#[test]
+fn a_frame_of_two(rt: HostRuntime) -> Result<(), Fail> {
+    let alloc = rt.alloc();
+    assert!(rt; holds_of_frame(frame_of(alloc, "b", &[3, 4]), is_two_by_two));
+    assert!(rt; holds_of_frame(frame_of(alloc, "b", &[3, 4]), finds_columns));
+    assert!(rt; holds_of_frame(frame_of(alloc, "b", &[3, 4]), takes_rows));
+    Ok(())
+}
+
+fn is_duplicate(made: PolarsResult<DataFrame>) -> bool {
+    matches!(made, Err(PolarsError::Duplicate(_)))
+}
+
+fn is_mismatch(made: PolarsResult<DataFrame>) -> bool {
+    matches!(made, Err(PolarsError::ShapeMismatch))
+}
+
+#[test]
+fn frames_refused(rt: HostRuntime) -> Result<(), Fail> {
+    assert!(rt; is_duplicate(frame_of(rt.alloc(), "a", &[3])));
+    assert!(rt; is_mismatch(frame_of(rt.alloc(), "b", &[3])));
     Ok(())
 }

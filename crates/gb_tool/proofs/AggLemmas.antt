@@ -3,7 +3,7 @@ use Rattle.std.proofs.Common.{◌≡◌, ℕ, ◌<◌, Bool, true, false, List, 
 use Rattle.std.specs.Option.{option_or}
 use Rattle.gb_defs.specs.Column.{Frame, find_column}
 use Rattle.gb_defs.specs.Fault.{Fault, ColumnNotFound, Operation, is_groups, missing_fault, unfit_at, unfit_fault, unfit_or}
-use Rattle.gb_cols.specs.PlSmallStr.{name_of}
+use Rattle.gb_base.specs.PlSmallStr.{name_of}
 use Rattle.gb_series.specs.Frame.{missing_column}
 use Rattle.gb_tool.specs.declared.words.Agg.{Agg}
 use Rattle.gb_tool.specs.declared.words.GroupByMethod.{GroupByMethod}

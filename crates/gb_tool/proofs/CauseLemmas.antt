@@ -3,7 +3,7 @@ use Rattle.std.proofs.Common.{◌≡◌, ℕ, zero, suc, ◌+◌, ◌<◌, List,
 use Rattle.std.specs.Option.{option_or}
 use Rattle.std.proofs.lemmas.List.{take_more}
 use Rattle.gb_defs.specs.Fault.{Fault}
-use Rattle.gb_cols.specs.PolarsError.{IsCause}
+use Rattle.gb_base.specs.PolarsError.{IsCause}
 
 pub or_none : (a b : Option Fault) → option_or a b ≡ None → (a ≡ None) × (b ≡ None)
 or_none None b e = (refl, e)

@@ -3,7 +3,7 @@ use Rattle.std.proofs.Common.{◌≡◌, ℕ, ◌+◌, ◌≤◌, List, [], ◌+
 use Rattle.std.proofs.Math.Nat.{eq-or-lt_of_le}
 use Rattle.std.proofs.Math.Seq.{take-add}
 use Rattle.std.specs.Option.{IfSome}
-use Rattle.gb_cols.specs.Device.{Rose}
+use Rattle.gb_base.specs.Device.{Rose}
 use Rattle.gb_tool.specs.declared.status.Status.{Status}
 use Rattle.gb_tool.specs.declared.status.Status.TheVariants.{Done, Usage, Table, Group, ReadFault, WriteFault, TooLong, NoMemory}
 use Rattle.gb_tool.specs.Run.{HasMoved, HasTaken, IsInputFault, IsPieceFault}

@@ -6,16 +6,18 @@ use Rattle.std.specs.Prelude.{if◌then◌else◌}
 use Rattle.std.proofs.lemmas.List.{get_or-map, length-map, map-append}
 use Rattle.gb_defs.specs.Groups.{rows_of_pair}
 use Rattle.gb_defs.specs.Slot.{Slot, Nil, Num}
-use Rattle.gb_defs.specs.ColumnType.{Boolean, ColumnType, Flat, FlatType}
+use Rattle.gb_defs.specs.ColumnType.{ColumnType, FlatType, Flat, Boolean}
 use Rattle.gb_defs.specs.Answer.{aggregated, answer_name}
 use Rattle.gb_tool.specs.Folds.{fold_column, fold_in, rows_fold, sums_of_column}
-use Rattle.gb_defs.specs.Column.{ColumnValue, content, fresh_column}
+use Rattle.gb_defs.specs.Column.{ColumnValue, categories_of, content, fresh_column}
 use Rattle.gb_defs.specs.Fault.{has_sum, sums_flat}
 use Rattle.gb_defs.specs.Fold.{Sum, Count, fold_of, fold_picked, picked, sum_type, wrap, wrap_flat, total, valid}
 use Rattle.gb_defs.proofs.FoldLemmas.{sum_push_null, sum_push_value}
-use Rattle.gb_cols.specs.Array.{flag_number, native_slot}
+use Rattle.gb_logical.proofs.CategoryLemmas.{has_texts}
+use Rattle.gb_base.specs.AnyValue.{flag_number}
+use Rattle.gb_values.specs.Array.{native_slot}
 use Rattle.gb_cols.specs.Column.{pushed}
-use Rattle.gb_cols.specs.Logical.{SumsAs, logical_column}
+use Rattle.gb_logical.specs.Logical.{SumsAs, logical_column}
 use Rattle.gb_tool.proofs.PushLemmas.{pushed_fresh}
 
 -- the columns are the aggregates
@@ -93,3 +95,10 @@ module _ (stored t : FlatType) (alike : SumsAs stored t) where
       let right : sums_of_column name c lists ≡ Some (fresh_column name (Flat t) (folds (Flat t) c.slots)) =
       ap (λ d. if has_sum d then Some (fresh_column name (sum_type d) (folds d c.slots)) else None) typed ∙ ap (λ b. chosen b (sum_type (Flat t))) has ∙ ap (chosen true) alike.same_type in
       ap (λ v. Some v) left ∙ sym right
+
+-- categories have no sums
+pub no_category_sums : (t : ColumnType) (texts : List (List ℕ)) → categories_of t ≡ Some texts → has_sum t ≡ false
+no_category_sums t texts e = elim (has_texts t texts e).1 [
+  | inl same ↦ rw same refl
+  | inr same ↦ rw same refl
+]

@@ -14,7 +14,7 @@ use Rattle.gb_defs.specs.Fault.{Fault, duplicate_of, fault, missing_fault, rows_
 use Rattle.gb_defs.specs.Outcome.{column_onto, find_columns, grouped}
 use Rattle.gb_defs.proofs.AnswerLemmas.{AreHigh, agree_high, agree_one, answer_high, answered, faulty, groups_firsts, groups_lists}
 use Rattle.gb_defs.proofs.ClassesLemmas.{firsts_few}
-use Rattle.gb_cols.specs.PolarsError.{IsCause}
+use Rattle.gb_base.specs.PolarsError.{IsCause}
 use Rattle.gb_series.specs.Frame.{frame_fault}
 use Rattle.gb_series.proofs.FrameLemmas.{found_long}
 use Rattle.gb_tool.specs.Grouping.{answer_parts, firsts_in}

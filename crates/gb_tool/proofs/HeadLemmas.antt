@@ -3,60 +3,22 @@ use Rattle.std.proofs.Common.{◌≡◌, ◌≢◌, ◌==◌, ℕ, ◌+◌, ◌-
 use Rattle.std.specs.Fmt.{digits}
 use Rattle.std.specs.Prelude.{if◌then◌else◌}
 use Rattle.std.proofs.lemmas.List.{length-drop, get_or-drop}
-use Rattle.std.specs.Option.{MatchOption}
-use Rattle.std.specs.List.{list_any, list_all, after_last, before_last, range_with_len, suffix_len}
+use Rattle.std.specs.List.{list_any, after_last, before_last, range_with_len, suffix_len}
 use Rattle.std.specs.Str.{bytes_eq, NoCharPasses}
 use Rattle.std.specs.Str.Pattern.{HasCharAt}
 use Rattle.std.specs.Cmp.Lexicographic.{bytes_decides}
-use Rattle.std.proofs.lemmas.Bool.{cases_Bool, ne_eqb, eq-eqb, false_from_ne_true, and_parts}
+use Rattle.std.proofs.lemmas.Bool.{cases_Bool, ne_eqb, eq-eqb, false_from_ne_true}
 use Rattle.std.proofs.lemmas.List.Sums.{suffix_len_is}
 use Rattle.std.proofs.lemmas.Str.Pattern.{NoCharPasses-char}
 use Rattle.gb_defs.specs.ColumnType.{FlatType, ColumnType, Flat, text}
-use Rattle.gb_defs.specs.Cell.{is_read_flat}
-use Rattle.gb_defs.specs.TypeWord.{decimal_word, decimal_words, type_words, word_among, type_of_word}
+use Rattle.gb_defs.specs.TypeWord.{decimal_word, word_among, type_of_word}
 use Rattle.gb_defs.specs.Table.{is_colon, Head, head_of, head_by_word}
-use Rattle.gb_tool.specs.Head.{decimal_scales, decimal_type_of, decimals_of, readable_head, read_flat, read_type, scale_among, unread_words}
+use Rattle.gb_tool.specs.Head.{decimal_scales, decimal_type_of, decimals_of, named_type, scale_among}
 
 -- ---- words
 
 pub apart : (word other : List ℕ) → word ≢ other → bytes_eq word other ≡ false
 apart word other n = false_from_ne_true (bytes_eq word other) (λ e. n ((bytes_decides word other).0 e))
-
-not_read : (t : FlatType) → None ≡ read_flat (Some t) → is_read_flat t ≡ false
-not_read t e = elim (cases_Bool (is_read_flat t)) [
-  | inl h ↦ let bad = rw h at e in cc
-  | inr h ↦ h
-]
-
--- what the words say of a word that is none of them
-abbrev Tells : List (List ℕ × FlatType) → List ℕ → Option FlatType → Type 0
-Tells ws word o = MatchOption o (list_any (λ known. bytes_eq known word) (unread_words ws) ≡ false)
-    (λ t. (is_read_flat t ≡ false) × (list_any (λ known. bytes_eq known word) (unread_words ws) ≡ true))
-
-word_turned : (a b : List ℕ) → bytes_eq a b ≡ false → bytes_eq b a ≡ false
-word_turned a b e = false_from_ne_true (bytes_eq b a) (λ h. let bad : true ≡ false = sym ((bytes_decides a b).1 (sym ((bytes_decides b a).0 h))) ∙ e in cc)
-
-any_other : (b : Bool) (x : List ℕ) (xs : List (List ℕ)) (word : List ℕ) → bytes_eq x word ≡ false
-    → list_any (λ known. bytes_eq known word) (if b then xs else x ∷ xs) ≡ list_any (λ known. bytes_eq known word) xs
-any_other true x xs word h = refl
-any_other false x xs word h = rw h
-
-other_word : (w : List ℕ × FlatType) (ws : List (List ℕ × FlatType)) (word : List ℕ) (o : Option FlatType) → bytes_eq w.0 word ≡ false → Tells ws word o → Tells (w ∷ ws) word o
-other_word w ws word None h t = any_other (is_read_flat w.1) w.0 (unread_words ws) word h ∙ t
-other_word w ws word (Some f) h t = (t.0, any_other (is_read_flat w.1) w.0 (unread_words ws) word h ∙ t.1)
-
--- words whose types are all read
-all_read : (ws : List (List ℕ × FlatType)) (word : List ℕ) → list_all (λ w. is_read_flat w.1) ws ≡ true → read_flat (word_among ws word) ≡ option_map (λ t. Flat t) (word_among ws word)
-all_read [] word all = refl
-all_read (w ∷ ws) word all =
-    let parts = and_parts (is_read_flat w.1) (list_all (λ w. is_read_flat w.1) ws) all in
-    elim (cases_Bool (bytes_eq word w.0)) [
-      | inl same ↦ rw (same, parts.0) refl
-      | inr other ↦ rw other (all_read ws word parts.1)
-    ]
-
-pub decimals_read : (word : List ℕ) → read_flat (word_among decimal_words word) ≡ decimal_type_of word
-decimals_read word = all_read decimal_words word refl
 
 -- the words of decimals tell their scales
 abbrev scaled : List ℕ → List (List ℕ × ℕ)
@@ -75,20 +37,6 @@ scales_are = refl
 
 pub scales_told : (word : List ℕ) → decimal_type_of word ≡ option_map decimals_of (scale_among decimal_scales word)
 scales_told word = among_scales (range_with_len 0 39) word ∙ ap (λ ws. option_map decimals_of (scale_among ws word)) scales_are
-
--- what the words say of a word whose type is not read
-unread_tells : (ws : List (List ℕ × FlatType)) (word : List ℕ) → None ≡ read_flat (word_among ws word) → Tells ws word (word_among ws word)
-unread_tells [] word e = refl
-unread_tells (w ∷ ws) word e = elim (cases_Bool (bytes_eq word w.0)) [
-  | inl same ↦
-      let type : None ≡ read_flat (Some w.1) = rw same at e in
-      let unread : is_read_flat w.1 ≡ false = not_read w.1 type in
-      let here = (bytes_decides w.0 word).1 (sym ((bytes_decides word w.0).0 same)) in
-      rw (same, unread, here) (refl, refl)
-  | inr differs ↦
-      let rest : None ≡ read_flat (word_among ws word) = rw differs at e in
-      rw differs (other_word w ws word (word_among ws word) (word_turned word w.0 differs) (unread_tells ws word rest))
-]
 
 -- ---- the colon
 
@@ -148,24 +96,16 @@ abbrev named : List ℕ → ColumnType → Head
 named name t = record { name = name; dtype = t }
 
 module _ (field name word : List ℕ) (cut : head_of field ≡ head_with field name (type_of_word word)) where
-  read_head : (o : Option FlatType) (t : ColumnType) → Some t ≡ read_flat o → readable_head (head_with field name o) ≡ Some (named name t)
-  read_head None t e = cc
-  read_head (Some f) t e = elim (cases_Bool (is_read_flat f)) [
-    | inl h ↦ let same : t ≡ Flat f = (let given = rw h at e in cc) in rw (h, same)
-    | inr h ↦ let bad = rw h at e in cc
-  ]
+  by_type : (o : Option FlatType) (t : ColumnType) → Some t ≡ option_map (λ f. Flat f) o → head_with field name o ≡ named name t
+  by_type None t e = cc
+  by_type (Some f) t e = let same : t ≡ Flat f = cc in rw same
 
-  pub typed_head : (t : ColumnType) → Some t ≡ read_type word → readable_head (head_of field) ≡ Some (named name t)
-  typed_head t e = rw cut (read_head (type_of_word word) t e)
+  by_none : (o : Option FlatType) → None ≡ option_map (λ f. Flat f) o → head_with field name o ≡ named field text
+  by_none None e = refl
+  by_none (Some f) e = cc
 
-  module _ (none : None ≡ read_type word) where
-    by_word : (o : Option FlatType) → Tells type_words word o → (list_any (λ known. bytes_eq known word) (unread_words type_words) ≡ true → readable_head (head_with field name o) ≡ None)
-        × (list_any (λ known. bytes_eq known word) (unread_words type_words) ≡ false → readable_head (head_with field name o) ≡ Some (named field text))
-    by_word None t = (λ e. let bad : true ≡ false = sym e ∙ t in cc, λ e. refl)
-    by_word (Some f) t = (λ e. rw t.0, λ e. let bad : true ≡ false = sym t.1 ∙ e in cc)
+  pub typed_head : (t : ColumnType) → Some t ≡ named_type word → head_of field ≡ named name t
+  typed_head t e = cut ∙ by_type (type_of_word word) t e
 
-    pub unread_head : list_any (λ known. bytes_eq known word) (unread_words type_words) ≡ true → readable_head (head_of field) ≡ None
-    unread_head e = rw cut ((by_word (type_of_word word) (unread_tells type_words word none)).0 e)
-
-    pub whole_head : list_any (λ known. bytes_eq known word) (unread_words type_words) ≡ false → readable_head (head_of field) ≡ Some (named field text)
-    whole_head e = rw cut ((by_word (type_of_word word) (unread_tells type_words word none)).1 e)
+  pub whole_head : None ≡ named_type word → head_of field ≡ named field text
+  whole_head e = cut ∙ by_none (type_of_word word) e

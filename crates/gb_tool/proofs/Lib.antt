@@ -1,4 +1,6 @@
 pub mod AggLemmas
+pub mod AskedLemmas
+pub mod BuilderLemmas
 pub mod CauseLemmas
 pub mod CellLemmas
 pub mod DeviceLemmas
@@ -16,4 +18,5 @@ pub mod RunLemmas
 pub mod TableLemmas
 pub mod TakingLemmas
 pub mod TextLemmas
+pub mod TypeWordLemmas
 pub mod WordsLemmas

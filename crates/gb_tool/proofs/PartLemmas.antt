@@ -7,7 +7,7 @@ use Rattle.gb_defs.specs.Column.{ColumnValue, Content, Frame, all_have_length, c
 use Rattle.gb_defs.specs.Fold.{Method, fold_of}
 use Rattle.gb_defs.specs.Answer.{aggregated, answer_name, answer_names, slots_in, type_in}
 use Rattle.gb_defs.specs.Fault.{Fault, duplicate_of}
-use Rattle.gb_cols.specs.PlSmallStr.{name_of}
+use Rattle.gb_base.specs.PlSmallStr.{name_of}
 use Rattle.gb_series.specs.Frame.{frame_fault}
 use Rattle.gb_tool.specs.declared.words.Agg.{Agg}
 use Rattle.gb_tool.specs.Grouping.{aggregates_over, answer_parts}

@@ -1,5 +1,5 @@
 -- Cells and records of plain text, as csv's machine reads them.
-use Rattle.std.proofs.Common.{◌≡◌, ◌≢◌, ◌==◌, ℕ, ◌+◌, ◌<◌, ◌≤◌, Bool, true, false, List, [], ◌∷◌, ◌++◌, length, get_or, get_or-drop, take, drop, refl, sym, ◌∙◌, ap, arith, Some, None, Ok, Err}
+use Rattle.std.proofs.Common.{◌≡◌, ◌≢◌, ◌==◌, ℕ, ◌+◌, ◌<◌, ◌≤◌, Bool, true, false, List, [], ◌∷◌, ◌++◌, length, map, get_or, get_or-drop, take, drop, refl, sym, ◌∙◌, ap, arith, Some, None, Ok, Err}
 use Rattle.std.specs.Str.{IsAscii}
 use Rattle.std.proofs.lemmas.Bool.{ne_eqb}
 use Rattle.std.proofs.lemmas.List.{take_all, drop_all, drop_more, take_more}
@@ -8,8 +8,10 @@ use Rattle.csv.specs.declared.parser.State.TheVariants as st
 use Rattle.csv.specs.Machine.{next_record}
 use Rattle.csv.specs.Reading.{Reached, default_config, strip_bom}
 use Rattle.csv.proofs.ReadFacts.{reached-more}
-use Rattle.gb_defs.specs.Column.{Frame}
+use Rattle.std.specs.List.{filter_map}
 use Rattle.gb_defs.specs.Table.{TableFault, table}
+use Rattle.gb_tool.specs.Asked.{asked_table, is_asked}
+use Rattle.gb_tool.specs.Building.{Building, read_if_kept}
 use Rattle.gb_tool.specs.Plain.{BeginsWith, IsCut, TakesLine}
 use Rattle.gb_tool.specs.Table.{columns_of_header}
 use Rattle.gb_tool.proofs.PushLemmas.{ascii_take}
@@ -123,7 +125,7 @@ module _ (text cell rest : List ℕ) (last : Bool) (c : IsCut text cell rest las
 
 -- ---- the records of a table
 
-module _ (null_word bytes : List ℕ) where
+module _ (names : List (List ℕ)) (null_word bytes : List ℕ) where
   module _ (header : List (List ℕ)) (rest : List ℕ) (some : 0 < length bytes) (mark : get_or bytes 0 0 ≢ 239) (feed : get_or bytes 0 0 ≢ 10) (return : get_or bytes 0 0 ≢ 13) (e : BeginsWith header bytes rest) where
     plain_reached : Reached default_config st.StartRecord (strip_bom bytes) (header ∷ []) st.StartRecord rest
     unfolding Reached
@@ -131,17 +133,17 @@ module _ (null_word bytes : List ℕ) where
         let read : next_record default_config st.StartRecord [] [] (strip_bom bytes) ≡ Some (header, st.StartRecord, rest) = rw (no_mark bytes mark) (begins bytes some feed return ∙ e) in
         ((header, st.StartRecord, rest), read, refl, (refl, refl))
 
-    pub plain_start : (frame : Frame) → columns_of_header header ≡ Ok frame → IsReading null_word bytes 1 frame st.StartRecord rest
-    plain_start frame made = reading_header null_word bytes header frame st.StartRecord rest plain_reached made
+    pub plain_start : (columns : List Building) → columns_of_header (is_asked names) header ≡ Ok columns → IsReading names null_word bytes 1 columns st.StartRecord rest
+    plain_start columns made = reading_header names null_word bytes header columns st.StartRecord rest plain_reached made
 
-    pub plain_no_columns : (fault : TableFault) → columns_of_header header ≡ Err fault → table bytes null_word ≡ Err fault
-    plain_no_columns fault bad = header_bad null_word bytes header st.StartRecord rest plain_reached fault bad
+    pub plain_no_columns : (fault : TableFault) → columns_of_header (is_asked names) header ≡ Err fault → table bytes null_word ≡ Err fault
+    plain_no_columns fault bad = header_bad names null_word bytes header st.StartRecord rest plain_reached fault bad
 
-  module _ (row : ℕ) (frame : Frame) (left : List ℕ) (now : IsReading null_word bytes row frame st.StartRecord left) where
-    pub plain_more : (frame' : Frame) (rest : List ℕ) → 0 < length left → get_or left 0 0 ≢ 10 → get_or left 0 0 ≢ 13 → TakesLine null_word frame frame' left rest → IsReading null_word bytes (row + 1) frame' st.StartRecord rest
-    plain_more frame' rest some feed return t =
+  module _ (row : ℕ) (columns : List Building) (left : List ℕ) (now : IsReading names null_word bytes row columns st.StartRecord left) where
+    pub plain_more : (columns' : List Building) (rest : List ℕ) → 0 < length left → get_or left 0 0 ≢ 10 → get_or left 0 0 ≢ 13 → TakesLine null_word columns columns' left rest → IsReading names null_word bytes (row + 1) columns' st.StartRecord rest
+    plain_more columns' rest some feed return t =
         let reached = reached-more default_config st.StartRecord st.StartRecord (strip_bom bytes) left (now.header ∷ now.rows) (t.fields, st.StartRecord, rest) now.reached (begins left some feed return ∙ t.reads) in
-        reading_more null_word bytes row frame st.StartRecord left now t.fields frame' st.StartRecord rest reached (t.takes row)
+        reading_more names null_word bytes row columns st.StartRecord left now t.fields columns' st.StartRecord rest reached (t.takes row)
 
-    pub plain_end : length left ≡ 0 → table bytes null_word ≡ Ok frame
-    plain_end none = reading_end null_word bytes row frame st.StartRecord left now (none_left left none)
+    pub plain_end : length left ≡ 0 → asked_table names bytes null_word ≡ Ok (filter_map read_if_kept columns)
+    plain_end none = reading_end names null_word bytes row columns st.StartRecord left now (none_left left none)

@@ -9,11 +9,11 @@ use Rattle.csv.specs.Records.{AllText, cut_from, field_at}
 use Rattle.gb_defs.specs.Slot.{Slot}
 use Rattle.gb_defs.specs.ColumnType.{ColumnType}
 use Rattle.gb_defs.specs.Cell.{cell_slot}
-use Rattle.gb_defs.specs.Column.{ColumnValue, Frame, fresh_column}
+use Rattle.gb_defs.specs.Column.{fresh_column}
 use Rattle.gb_defs.specs.Table.{TableFault, Ragged, BadCell, onto, cell_onto, cells_from}
 use Rattle.gb_cols.specs.Column.{pushed}
-use Rattle.gb_cols.specs.Column.{column_with}
-use Rattle.gb_tool.specs.Table.{map_ok, columns_with, head_in, pushed_each}
+use Rattle.gb_tool.specs.Building.{Building, building_with, taken}
+use Rattle.gb_tool.specs.Table.{map_ok, columns_with, head_in, taken_each}
 
 -- a push to a column in one chunk
 pub pushed_fresh : (name : List ℕ) (t : ColumnType) (slots : List Slot) (slot : Slot) → pushed (fresh_column name t slots) slot ≡ fresh_column name t (slots ++ slot ∷ [])
@@ -76,27 +76,27 @@ no_front (Ok xs) = refl
 
 -- ---- the cells of a record, from the k-th column on
 
-abbrev column_onto : ℕ → ℕ → Option ColumnValue → Result Frame TableFault → Result Frame TableFault
+abbrev column_onto : ℕ → ℕ → Option Building → Result (List Building) TableFault → Result (List Building) TableFault
 column_onto row k None rest = Err (BadCell row k)
 column_onto row k (Some c) rest = onto c rest
 
-abbrev pub cells_with : List ℕ → ℕ → ℕ → Frame → List (List ℕ) → Result Frame TableFault
+abbrev pub cells_with : List ℕ → ℕ → ℕ → List Building → List (List ℕ) → Result (List Building) TableFault
 cells_with null_word row k [] fields = Ok []
 cells_with null_word row k (c ∷ cs) [] = Ok []
-cells_with null_word row k (c ∷ cs) (field ∷ fields) = column_onto row k (column_with null_word c field) (cells_with null_word row (suc k) cs fields)
+cells_with null_word row k (c ∷ cs) (field ∷ fields) = column_onto row k (building_with null_word c field) (cells_with null_word row (suc k) cs fields)
 
-one_cell : (row k : ℕ) (c : ColumnValue) (cs : Frame) (o : Option Slot) (r : Result (List Slot) TableFault)
-    → column_onto row k (option_map (pushed c) o) (map_ok (pushed_each cs) r) ≡ map_ok (pushed_each (c ∷ cs)) (cell_onto row k o r)
+one_cell : (row k : ℕ) (c : Building) (cs : List Building) (o : Option Slot) (r : Result (List Slot) TableFault)
+    → column_onto row k (option_map (taken c) o) (map_ok (taken_each cs) r) ≡ map_ok (taken_each (c ∷ cs)) (cell_onto row k o r)
 one_cell row k c cs None r = refl
 one_cell row k c cs (Some slot) (Err fault) = refl
 one_cell row k c cs (Some slot) (Ok slots) = refl
 
-each_cell : (null_word : List ℕ) (row k : ℕ) (cs : Frame) (fields : List (List ℕ)) → cells_with null_word row k cs fields ≡ map_ok (pushed_each cs) (cells_from null_word row k (map head_in cs) fields)
+each_cell : (null_word : List ℕ) (row k : ℕ) (cs : List Building) (fields : List (List ℕ)) → cells_with null_word row k cs fields ≡ map_ok (taken_each cs) (cells_from null_word row k (map head_in cs) fields)
 each_cell null_word row k [] fields = refl
 each_cell null_word row k (c ∷ cs) [] = refl
-each_cell null_word row k (c ∷ cs) (field ∷ fields) = rw (each_cell null_word row (suc k) cs fields) (one_cell row k c cs (cell_slot null_word c.dtype field) _)
+each_cell null_word row k (c ∷ cs) (field ∷ fields) = rw (each_cell null_word row (suc k) cs fields) (one_cell row k c cs (cell_slot null_word c.column.dtype field) _)
 
-module _ (null_word : List ℕ) (row : ℕ) (cs : Frame) (fields : List (List ℕ)) where
+module _ (null_word : List ℕ) (row : ℕ) (cs : List Building) (fields : List (List ℕ)) where
   whole : length fields ≡ length cs → columns_with null_word row cs fields ≡ cells_with null_word row 1 cs fields
   whole e = rw (length-map cs head_in, eq-eqb (length fields) (length cs) e) (sym (each_cell null_word row 1 cs fields))
 
@@ -105,9 +105,9 @@ module _ (null_word : List ℕ) (row : ℕ) (cs : Frame) (fields : List (List �
 
 -- ---- one column after the other
 
-module _ (null_word : List ℕ) (initial : Frame) where
+module _ (null_word : List ℕ) (initial : List Building) where
   -- the columns before the i-th have these cells, whatever cells follow and whatever the row is
-  pub record IsPassing (done : List (List ℕ)) (i : ℕ) (now : Frame) : Type 0 where
+  pub record IsPassing (done : List (List ℕ)) (i : ℕ) (now : List Building) : Type 0 where
     pub count : length done ≡ i
     pub same : length now ≡ length initial
     pub so_far : (row : ℕ) (more : List (List ℕ)) → cells_with null_word row 1 initial (done ++ more) ≡ map_ok (λ cs. take i now ++ cs) (cells_with null_word row (suc i) (drop i now) more)
@@ -115,13 +115,13 @@ module _ (null_word : List ℕ) (initial : Frame) where
   pub passing_none : IsPassing [] 0 initial
   passing_none = record { count = refl; same = refl; so_far = λ row more. no_front (cells_with null_word row 1 initial more) }
 
-  module _ (done : List (List ℕ)) (i : ℕ) (now : Frame) (s : IsPassing done i now) where
-    module _ (c : ColumnValue) (cell : List ℕ) (lt : i < length now) (at : c ≡ get_or now i c) where
+  module _ (done : List (List ℕ)) (i : ℕ) (now : List Building) (s : IsPassing done i now) where
+    module _ (c : Building) (cell : List ℕ) (lt : i < length now) (at : c ≡ get_or now i c) where
       here : (row : ℕ) (more : List (List ℕ))
-          → cells_with null_word row (suc i) (drop i now) (cell ∷ more) ≡ column_onto row (suc i) (column_with null_word c cell) (cells_with null_word row (suc (i + 1)) (drop (i + 1) now) more)
+          → cells_with null_word row (suc i) (drop i now) (cell ∷ more) ≡ column_onto row (suc i) (building_with null_word c cell) (cells_with null_word row (suc (i + 1)) (drop (i + 1) now) more)
       here row more = rw (drop_more now i c lt, ← at, add-one)
 
-      pub passing_more : (d : ColumnValue) → column_with null_word c cell ≡ Some d → IsPassing (done ++ cell ∷ []) (i + 1) (set now i d)
+      pub passing_more : (d : Building) → building_with null_word c cell ≡ Some d → IsPassing (done ++ cell ∷ []) (i + 1) (set now i d)
       passing_more d e = record {
         count = omega (arith, length-append done (cell ∷ []), s.count);
         same = omega (arith, length-set now i d, s.same);
@@ -132,7 +132,7 @@ module _ (null_word : List ℕ) (initial : Frame) where
             rw (take_more_set now i d lt, drop-set-lt (i + 1) now i d (omega arith)) moved;
       }
 
-      pub passing_bad : (row : ℕ) (more : List (List ℕ)) → length (done ++ cell ∷ more) ≡ length initial → column_with null_word c cell ≡ None
+      pub passing_bad : (row : ℕ) (more : List (List ℕ)) → length (done ++ cell ∷ more) ≡ length initial → building_with null_word c cell ≡ None
           → columns_with null_word row initial (done ++ cell ∷ more) ≡ Err (BadCell row (i + 1))
       passing_bad row more long e =
           whole null_word row initial (done ++ cell ∷ more) long ∙ s.so_far row (cell ∷ more)
@@ -146,14 +146,14 @@ module _ (null_word : List ℕ) (initial : Frame) where
 
   -- ---- the fields of a record that is at hand
 
-  module _ (fields : List (List ℕ)) (i : ℕ) (now : Frame) (s : IsPassing (take i fields) i now) (c : ColumnValue) (field : List ℕ) (lt : i < length now) (at : c ≡ get_or now i c) (read : field_at fields i ≡ Some field) where
-    pub pushing_more : (d : ColumnValue) → column_with null_word c field ≡ Some d → IsPassing (take (i + 1) fields) (i + 1) (set now i d)
+  module _ (fields : List (List ℕ)) (i : ℕ) (now : List Building) (s : IsPassing (take i fields) i now) (c : Building) (field : List ℕ) (lt : i < length now) (at : c ≡ get_or now i c) (read : field_at fields i ≡ Some field) where
+    pub pushing_more : (d : Building) → building_with null_word c field ≡ Some d → IsPassing (take (i + 1) fields) (i + 1) (set now i d)
     pushing_more d e = rw (field_take fields i field read) (passing_more (take i fields) i now s c field lt at d e)
 
-    pub pushing_bad : (row : ℕ) → length fields ≡ length initial → column_with null_word c field ≡ None → columns_with null_word row initial fields ≡ Err (BadCell row (i + 1))
+    pub pushing_bad : (row : ℕ) → length fields ≡ length initial → building_with null_word c field ≡ None → columns_with null_word row initial fields ≡ Err (BadCell row (i + 1))
     pushing_bad row long e =
         let all : take i fields ++ field ∷ drop (i + 1) fields ≡ fields = ap (λ rest. take i fields ++ rest) (sym (field_drop fields i field read)) ∙ front_back fields i in
         rw all at (passing_bad (take i fields) i now s c field lt at row (drop (i + 1) fields) (ap length all ∙ long) e)
 
-  pub pushing_all : (fields : List (List ℕ)) (i : ℕ) (now : Frame) → IsPassing (take i fields) i now → length fields ≤ i → (row : ℕ) → length now ≤ i → i ≤ length now → columns_with null_word row initial fields ≡ Ok now
+  pub pushing_all : (fields : List (List ℕ)) (i : ℕ) (now : List Building) → IsPassing (take i fields) i now → length fields ≤ i → (row : ℕ) → length now ≤ i → i ≤ length now → columns_with null_word row initial fields ≡ Ok now
   pushing_all fields i now s short row few all = rw (take_all i fields short) at (passing_all (take i fields) i now s row few all)

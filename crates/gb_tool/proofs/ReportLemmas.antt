@@ -2,15 +2,15 @@
 use Rattle.std.proofs.Common.{◌≡◌, ℕ, Bool, true, false, List, [], ◌∷◌, ◌∙◌, Option, Some, None, Result, Ok, Err, cond, length, map, get_or, refl, sym, ap, arith}
 use Rattle.std.specs.Prelude.{option_map, option_and_then}
 use Rattle.std.specs.Result.{result_err}
-use Rattle.gb_defs.specs.Column.{Content, Frame}
+use Rattle.gb_defs.specs.Column.{Content, Frame, IsFrame}
 use Rattle.gb_defs.specs.Fault.{Fault}
 use Rattle.gb_defs.specs.Fold.{Method}
 use Rattle.gb_defs.specs.Outcome.{BadGroup, Report, grouped, outcome, outcome_of_table, written}
 use Rattle.gb_defs.specs.Request.{Given, Group, Request, ToolOptions, asked_keys, given_from, group_of, nothing, request}
-use Rattle.gb_defs.specs.Table.{table}
+use Rattle.gb_defs.specs.Table.{TableFault, table}
 use Rattle.gb_defs.specs.Text.{frame_text}
-use Rattle.gb_cols.specs.PolarsError.{Explains, IsCause, cause_of}
-use Rattle.gb_cols.specs.declared.error.PolarsError.{PolarsError}
+use Rattle.gb_base.specs.PolarsError.{Explains, IsCause, cause_of}
+use Rattle.gb_base.specs.declared.error.PolarsError.{PolarsError}
 use Rattle.gb_tool.specs.declared.status.TableError.{TableError}
 use Rattle.gb_tool.specs.declared.status.TableError.TheVariants.{Fault as Faulty, NoMemory}
 use Rattle.gb_tool.specs.Request.{HasOneKey}
@@ -19,6 +19,10 @@ use Rattle.gb_tool.specs.Status.{IsStatusOf, IsTold, IsToldOf, of_table}
 use Rattle.gb_tool.specs.declared.status.Status.{Status}
 use Rattle.gb_tool.specs.declared.status.Status.TheVariants as status
 use Rattle.gb_tool.specs.Refusal.{IsRefusedTable}
+use Rattle.gb_tool.specs.Asked.{asked_names, asked_table, kept}
+use Rattle.gb_tool.specs.Table.{map_ok}
+use Rattle.gb_tool.proofs.AskedLemmas.{grouped_asked}
+use Rattle.gb_tool.proofs.ReadingLemmas.{table_is_frame}
 
 -- the names of one key
 pub one_name : {A : Type 0} (f : A → List ℕ) (xs : List A) (d : A) → length xs ≡ 1 → map f xs ≡ f (get_or xs 0 d) ∷ []
@@ -61,13 +65,21 @@ module _ (by : List (List ℕ)) (aggs : List (List ℕ × Method)) (options : To
   refused_cause (Some f) (Ok columns) s h t = cc
   refused_cause (Some f) (Err g) s h t = let same : f ≡ g = cc in told_report f g s same t
 
-  module _ (frame : Frame) (read : table bytes options.null_word ≡ Ok frame) where
-    read_outcome : outcome (Group by aggs options) bytes ≡ written options.null_word (grouped frame by aggs)
-    unfolding outcome
-    read_outcome = ap (outcome_of_table by aggs options.null_word) read
+-- the table is grouped by the columns that are asked for as it is whole
+as_whole : (by : List ℕ) (aggs : List (List ℕ × Method)) (options : ToolOptions) (r : Result Frame TableFault) (frame : Frame) → ((whole : Frame) → r ≡ Ok whole → IsFrame whole)
+    → map_ok (kept (asked_names by aggs)) r ≡ Ok frame → outcome_of_table (by ∷ []) aggs options.null_word r ≡ written options.null_word (grouped frame (by ∷ []) aggs)
+as_whole by aggs options (Err fault) frame whole e = cc
+as_whole by aggs options (Ok all) frame whole e =
+    let same : kept (asked_names by aggs) all ≡ frame = cc in
+    ap (written options.null_word) (sym (grouped_asked all by aggs (whole all refl)) ∙ ap (λ f. grouped f (by ∷ []) aggs) same)
 
-    pub bad_group : (e : PolarsError) (s : Status) → Explains e (result_err (grouped frame by aggs)) → IsStatusOf e s → IsRefusedReport s (outcome (Group by aggs options) bytes)
-    bad_group e s h t = rw read_outcome (refused_cause (cause_of e) (grouped frame by aggs) s h t)
+module _ (by : List ℕ) (aggs : List (List ℕ × Method)) (options : ToolOptions) (bytes : List ℕ) (frame : Frame) (read : asked_table (asked_names by aggs) bytes options.null_word ≡ Ok frame) where
+  read_outcome : outcome (Group (by ∷ []) aggs options) bytes ≡ written options.null_word (grouped frame (by ∷ []) aggs)
+  unfolding outcome
+  read_outcome = as_whole by aggs options (table bytes options.null_word) frame (table_is_frame options.null_word bytes) read
 
-    pub good_report : (columns : List Content) (text : List ℕ) → grouped frame by aggs ≡ Ok columns → text ≡ frame_text columns options.null_word → outcome (Group by aggs options) bytes ≡ Report text
-    good_report columns text is printed = read_outcome ∙ ap (written options.null_word) is ∙ ap (λ t. Report t) (sym printed)
+  pub bad_group : (e : PolarsError) (s : Status) → Explains e (result_err (grouped frame (by ∷ []) aggs)) → IsStatusOf e s → IsRefusedReport s (outcome (Group (by ∷ []) aggs options) bytes)
+  bad_group e s h t = rw read_outcome (refused_cause (by ∷ []) aggs options bytes (cause_of e) (grouped frame (by ∷ []) aggs) s h t)
+
+  pub good_report : (columns : List Content) (text : List ℕ) → grouped frame (by ∷ []) aggs ≡ Ok columns → text ≡ frame_text columns options.null_word → outcome (Group (by ∷ []) aggs options) bytes ≡ Report text
+  good_report columns text is printed = read_outcome ∙ ap (written options.null_word) is ∙ ap (λ t. Report t) (sym printed)

@@ -3,10 +3,10 @@ use Rattle.std.proofs.Common.{◌≡◌, ◌<◌, ◌≤◌, ◌⊎◌, ℕ, Lis
 use Rattle.gb_defs.specs.Fault as fault
 use Rattle.gb_defs.specs.Request as asked
 use Rattle.gb_defs.specs.Outcome.{Outcome, BadTable, BadGroup, Report}
-use Rattle.gb_cols.specs.PlSmallStr.{name_of}
-use Rattle.gb_cols.specs.declared.small_str.PlSmallStr.{PlSmallStr}
-use Rattle.gb_cols.specs.declared.error.PolarsError.{PolarsError}
-use Rattle.gb_cols.specs.declared.error.PolarsError.TheVariants.{ColumnNotFound, ComputeError}
+use Rattle.gb_base.specs.PlSmallStr.{name_of}
+use Rattle.gb_base.specs.declared.small_str.PlSmallStr.{PlSmallStr}
+use Rattle.gb_base.specs.declared.error.PolarsError.{PolarsError}
+use Rattle.gb_base.specs.declared.error.PolarsError.TheVariants.{ColumnNotFound, ComputeError}
 use Rattle.gb_tool.specs.declared.status.Status.{Status}
 use Rattle.gb_tool.specs.declared.status.Status.TheVariants.{Done, Usage, Table, Group, ReadFault, WriteFault, TooLong, NoMemory}
 use Rattle.gb_tool.specs.Run.{Comes, HasCause, IsOneOf, Run, Task}

@@ -1,59 +1,88 @@
 -- The columns of the records so far, and of one record more.
-use Rattle.std.proofs.Common.{◌≡◌, ◌==◌, ℕ, ◌+◌, ◌^◌, ◌<◌, zero, suc, Bool, true, false, cond, not, inl, inr, List, [], ◌∷◌, ◌++◌, length, map, refl, sym, ◌∙◌, ap, zero-add, arith, Option, Some, None, Result, Ok, Err, append_assoc}
+use Rattle.std.proofs.Common.{◌≡◌, ◌==◌, ℕ, ◌+◌, ◌^◌, ◌<◌, ◌≤◌, ◌⊎◌, zero, suc, Bool, true, false, cond, not, inl, inr, subst, List, [], ◌∷◌, ◌++◌, length, map, refl, sym, ◌∙◌, ap, zero-add, arith, Option, Some, None, Result, Ok, Err, append_assoc}
 use Rattle.std.specs.Prelude.{if◌then◌else◌}
-use Rattle.std.specs.List.{list_all, list_any, AllByRecursion}
+use Rattle.std.specs.List.{list_any, cons_option, filter_map, AllByRecursion}
 use Rattle.std.specs.Str.{bytes_eq, is_utf8}
-use Rattle.std.proofs.lemmas.Bool.{cases_Bool, and_parts, eqb-true, eq-eqb}
+use Rattle.std.proofs.lemmas.Bool.{cases_Bool, eqb-true, eq-eqb}
 use Rattle.std.proofs.lemmas.List.{map-append, length-append, length-map}
 use Rattle.gb_defs.specs.Slot.{Slot, slot_at}
-use Rattle.gb_defs.specs.ColumnType.{ColumnType, Flat, ListOf, ArrayOf, StructOf, Null, Boolean, Unsigned, Signed, Decimal, Date, Time, Datetime, Duration, String, Binary, BinaryOffset, Categorical, Enum}
-use Rattle.gb_defs.specs.Column.{Frame, fresh_column, names_of, frame_height, all_have_length, repeated_after}
-use Rattle.gb_defs.specs.Cell.{cell_slot, is_read}
-use Rattle.gb_defs.specs.Table.{TableFault, Head, onto, cell_onto, cells_from, record_slots, row_onto, rows_from, slots_of_column, read_column, columns_from, head_of, is_readable, heads_from}
-use Rattle.gb_cols.specs.Column.{pushed}
-use Rattle.gb_tool.specs.Table.{head_in, pushed_each}
+use Rattle.gb_defs.specs.ColumnType.{CategoricalOrdering, ColumnType, Flat, ListOf, ArrayOf, StructOf, Null, Boolean, Unsigned, Signed, Decimal, Date, Time, Datetime, Duration, String, Binary, BinaryOffset, Categorical, Enum}
+use Rattle.gb_defs.specs.Column.{ColumnValue, Frame, fresh_column, names_of, frame_height, all_have_length, repeated_after}
+use Rattle.gb_defs.specs.Cell.{cell_slot}
+use Rattle.gb_defs.specs.Table.{TableFault, Head, onto, cell_onto, cells_from, coded_slot, record_slots, row_onto, rows_from, slots_of_column, read_column, columns_from, head_of, heads_from, texts_in}
+use Rattle.gb_cols.specs.Column.{ReadsCells, pushed}
+use Rattle.gb_tool.specs.Asked.{is_asked, kept}
+use Rattle.gb_tool.specs.Building.{IsRoomy, IsWhole, kept_slot, read_if_kept, taken}
+use Rattle.gb_tool.specs.Table.{built_from, built_of, head_in, taken_each}
 use Rattle.gb_tool.proofs.PushLemmas.{pushed_fresh}
 
--- ---- columns of types that are read today
+-- ---- columns whose cells were read
 
--- the column of cells that read is one in one chunk
-pub read_is_fresh : (name : List ℕ) (t : ColumnType) (slots : List Slot) → is_read t ≡ true → read_column name t slots ≡ fresh_column name t slots
-read_is_fresh name (Flat Null) slots e = refl
-read_is_fresh name (Flat Boolean) slots e = refl
-read_is_fresh name (Flat (Unsigned w)) slots e = refl
-read_is_fresh name (Flat (Signed w)) slots e = refl
-read_is_fresh name (Flat (Decimal precision scale)) slots e = refl
-read_is_fresh name (Flat Date) slots e = refl
-read_is_fresh name (Flat Time) slots e = refl
-read_is_fresh name (Flat (Datetime unit)) slots e = refl
-read_is_fresh name (Flat (Duration unit)) slots e = refl
-read_is_fresh name (Flat String) slots e = refl
-read_is_fresh name (Flat Binary) slots e = refl
-read_is_fresh name (Flat BinaryOffset) slots e = refl
-read_is_fresh name (Flat (Categorical texts ordering)) slots e = cc
-read_is_fresh name (Flat (Enum texts ordering)) slots e = refl
-read_is_fresh name (ListOf t) slots e = refl
-read_is_fresh name (ArrayOf t width) slots e = refl
-read_is_fresh name (StructOf fs) slots e = refl
+-- a column of cells is in one chunk as it is read, but for categories, which get codes
+read_cases : (name : List ℕ) (t : ColumnType) (slots : List Slot)
+    → (read_column name t slots ≡ fresh_column name t slots) ⊎ ((texts : Option (List (List ℕ))) × (ordering : CategoricalOrdering) × (t ≡ Flat (Categorical texts ordering)))
+read_cases name (Flat Null) slots = inl refl
+read_cases name (Flat Boolean) slots = inl refl
+read_cases name (Flat (Unsigned w)) slots = inl refl
+read_cases name (Flat (Signed w)) slots = inl refl
+read_cases name (Flat (Decimal precision scale)) slots = inl refl
+read_cases name (Flat Date) slots = inl refl
+read_cases name (Flat Time) slots = inl refl
+read_cases name (Flat (Datetime unit)) slots = inl refl
+read_cases name (Flat (Duration unit)) slots = inl refl
+read_cases name (Flat String) slots = inl refl
+read_cases name (Flat Binary) slots = inl refl
+read_cases name (Flat BinaryOffset) slots = inl refl
+read_cases name (Flat (Categorical texts ordering)) slots = inr (texts, ordering, refl)
+read_cases name (Flat (Enum texts ordering)) slots = inl refl
+read_cases name (ListOf t) slots = inl refl
+read_cases name (ArrayOf t width) slots = inl refl
+read_cases name (StructOf fs) slots = inl refl
 
-abbrev pub are_read : List Head → Bool
-are_read heads = list_all (λ head. is_read head.dtype) heads
+-- where cells read as slots, they are those of the column
+pub read_is_fresh : (name : List ℕ) (t : ColumnType) (slots : List Slot) → ReadsCells t → read_column name t slots ≡ fresh_column name t slots
+read_is_fresh name t slots reads = elim (read_cases name t slots) [
+  | inl same ↦ same
+  | inr codes ↦ let none : ⊥ = subst ReadsCells codes.2 reads in absurd none
+]
 
--- the columns from the k-th on, each in one chunk
-abbrev pub fresh_from : ℕ → List Head → List (List Slot) → Frame
-fresh_from k [] rows = []
-fresh_from k (head ∷ heads) rows = fresh_column head.name head.dtype (slots_of_column k rows) ∷ fresh_from (suc k) heads rows
+read_name : (name : List ℕ) (t : ColumnType) (slots : List Slot) → (read_column name t slots).name ≡ name
+read_name name t slots = elim (read_cases name t slots) [
+  | inl same ↦ ap (λ (c : ColumnValue). c.name) same
+  | inr codes ↦ rw codes.2 refl
+]
 
-pub columns_fresh : (k : ℕ) (heads : List Head) (rows : List (List Slot)) → are_read heads ≡ true → columns_from k heads rows ≡ fresh_from k heads rows
-columns_fresh k [] rows e = refl
-columns_fresh k (head ∷ heads) rows e =
-    let p = and_parts (is_read head.dtype) (are_read heads) e in
-    ap (λ c. c ∷ columns_from (suc k) heads rows) (read_is_fresh head.name head.dtype (slots_of_column k rows) p.0)
-    ∙ ap (λ cs. fresh_column head.name head.dtype (slots_of_column k rows) ∷ cs) (columns_fresh (suc k) heads rows p.1)
+read_length : (name : List ℕ) (t : ColumnType) (slots : List Slot) → length (read_column name t slots).slots ≡ length slots
+read_length name t slots = elim (read_cases name t slots) [
+  | inl same ↦ ap (λ (c : ColumnValue). length c.slots) same
+  | inr codes ↦ rw codes.2 (length-map slots (coded_slot (texts_in slots)))
+]
 
-pub heads_in_fresh : (k : ℕ) (heads : List Head) (rows : List (List Slot)) → map head_in (fresh_from k heads rows) ≡ heads
-heads_in_fresh k [] rows = refl
-heads_in_fresh k (head ∷ heads) rows = ap (λ hs. head ∷ hs) (heads_in_fresh (suc k) heads rows)
+-- slots that are all kept
+kept_all : (slots : List Slot) → map (kept_slot true) slots ≡ slots
+kept_all [] = refl
+kept_all (slot ∷ slots) = ap (λ ss. slot ∷ ss) (kept_all slots)
+
+pub heads_in_built : (asked : List ℕ → Bool) (k : ℕ) (heads : List Head) (rows : List (List Slot)) → map head_in (built_from asked k heads rows) ≡ heads
+heads_in_built asked k [] rows = refl
+heads_in_built asked k (head ∷ heads) rows = ap (λ hs. head ∷ hs) (heads_in_built asked (suc k) heads rows)
+
+module _ (names : List (List ℕ)) where
+  kept_first : (keeps : Bool) (head : Head) (slots : List Slot) (rest : List ColumnValue)
+      → cons_option (read_if_kept (built_of keeps head slots)) rest ≡ cond keeps (read_column head.name head.dtype slots ∷ rest) rest
+  kept_first true head slots rest = ap (λ ss. read_column head.name head.dtype ss ∷ rest) (kept_all slots)
+  kept_first false head slots rest = refl
+
+  -- the columns whose slots are kept, once all cells are read
+  pub columns_kept : (k : ℕ) (heads : List Head) (rows : List (List Slot)) → filter_map read_if_kept (built_from (is_asked names) k heads rows) ≡ kept names (columns_from k heads rows)
+  columns_kept k [] rows = refl
+  columns_kept k (head ∷ heads) rows =
+      let slots = slots_of_column k rows in
+      let column = read_column head.name head.dtype slots in
+      let rest = kept names (columns_from (suc k) heads rows) in
+      ap (cons_option (read_if_kept (built_of (is_asked names head.name) head slots))) (columns_kept (suc k) heads rows)
+      ∙ kept_first (is_asked names head.name) head slots rest
+      ∙ ap (λ name. cond (is_asked names name) (column ∷ rest) rest) (sym (read_name head.name head.dtype slots))
 
 -- ---- a record has a slot for each head
 
@@ -119,42 +148,58 @@ slot_after [] slots slot (suc k) e = absurd (omega (arith, e))
 slot_after (p ∷ pre) slots slot zero e = absurd (omega (arith, e))
 slot_after (p ∷ pre) slots slot (suc k) e = slot_after pre slots slot k (omega (arith, e))
 
-column_more : (k : ℕ) (head : Head) (rows : List (List Slot)) (pre slots : List Slot) (slot : Slot) → length pre ≡ k
-    → pushed (fresh_column head.name head.dtype (slots_of_column k rows)) slot ≡ fresh_column head.name head.dtype (slots_of_column k (rows ++ (pre ++ slot ∷ slots) ∷ []))
-column_more k head rows pre slots slot e =
-    pushed_fresh head.name head.dtype (slots_of_column k rows) slot
-    ∙ ap (fresh_column head.name head.dtype) (sym (map-append (λ row. slot_at row k) rows ((pre ++ slot ∷ slots) ∷ [])
-    ∙ ap (λ s. slots_of_column k rows ++ s ∷ []) (slot_after pre slots slot k e)))
+column_more : (keeps : Bool) (k : ℕ) (head : Head) (rows : List (List Slot)) (pre slots : List Slot) (slot : Slot) → length pre ≡ k
+    → taken (built_of keeps head (slots_of_column k rows)) slot ≡ built_of keeps head (slots_of_column k (rows ++ (pre ++ slot ∷ slots) ∷ []))
+column_more keeps k head rows pre slots slot e =
+    let before = slots_of_column k rows in
+    let all = map-append (λ row. slot_at row k) rows ((pre ++ slot ∷ slots) ∷ []) ∙ ap (λ s. before ++ s ∷ []) (slot_after pre slots slot k e) in
+    ap (λ c. record { keeps = keeps; column = c }) (pushed_fresh head.name head.dtype (map (kept_slot keeps) before) (kept_slot keeps slot)
+    ∙ ap (fresh_column head.name head.dtype) (sym (map-append (kept_slot keeps) before (slot ∷ [])) ∙ ap (map (kept_slot keeps)) (sym all)))
 
 -- the slots of a record behind those of other records, the first k of its slots being `pre`
-pub columns_more : (k : ℕ) (heads : List Head) (rows : List (List Slot)) (pre slots : List Slot) → length pre ≡ k → length slots ≡ length heads
-    → pushed_each (fresh_from k heads rows) slots ≡ fresh_from k heads (rows ++ (pre ++ slots) ∷ [])
-columns_more k [] rows pre slots e h = refl
-columns_more k (head ∷ heads) rows pre [] e h = absurd (omega (arith, h))
-columns_more k (head ∷ heads) rows pre (slot ∷ slots) e h =
-    let rest = columns_more (suc k) heads rows (pre ++ slot ∷ []) slots (omega (arith, e, length-append pre (slot ∷ []))) (omega (arith, h)) in
+pub columns_more : (asked : List ℕ → Bool) (k : ℕ) (heads : List Head) (rows : List (List Slot)) (pre slots : List Slot) → length pre ≡ k → length slots ≡ length heads
+    → taken_each (built_from asked k heads rows) slots ≡ built_from asked k heads (rows ++ (pre ++ slots) ∷ [])
+columns_more asked k [] rows pre slots e h = refl
+columns_more asked k (head ∷ heads) rows pre [] e h = absurd (omega (arith, h))
+columns_more asked k (head ∷ heads) rows pre (slot ∷ slots) e h =
+    let rest = columns_more asked (suc k) heads rows (pre ++ slot ∷ []) slots (omega (arith, e, length-append pre (slot ∷ []))) (omega (arith, h)) in
     let whole = rw (append_assoc pre (slot ∷ []) slots) at rest in
-    ap (λ c. c ∷ pushed_each (fresh_from (suc k) heads rows) slots) (column_more k head rows pre slots slot e)
-    ∙ ap (λ cs. fresh_column head.name head.dtype (slots_of_column k (rows ++ (pre ++ slot ∷ slots) ∷ [])) ∷ cs) whole
+    ap (λ c. c ∷ taken_each (built_from asked (suc k) heads rows) slots) (column_more (asked head.name) k head rows pre slots slot e)
+    ∙ ap (λ cs. built_of (asked head.name) head (slots_of_column k (rows ++ (pre ++ slot ∷ slots) ∷ [])) ∷ cs) whole
 
 -- ---- names and lengths
 
-pub names_from : (k : ℕ) (heads : List Head) (rows : List (List Slot)) → names_of (fresh_from k heads rows) ≡ map (λ h. h.name) heads
+pub names_from : (k : ℕ) (heads : List Head) (rows : List (List Slot)) → names_of (columns_from k heads rows) ≡ map (λ h. h.name) heads
 names_from k [] rows = refl
-names_from k (head ∷ heads) rows = rw (names_from (suc k) heads rows)
+names_from k (head ∷ heads) rows = rw (read_name head.name head.dtype (slots_of_column k rows), names_from (suc k) heads rows)
 
-lengths_from : (k : ℕ) (heads : List Head) (rows : List (List Slot)) → all_have_length (length rows) (fresh_from k heads rows) ≡ true
+height_from : (k : ℕ) (head : Head) (rows : List (List Slot)) → length (read_column head.name head.dtype (slots_of_column k rows)).slots ≡ length rows
+height_from k head rows = read_length head.name head.dtype (slots_of_column k rows) ∙ length-map rows (λ row. slot_at row k)
+
+lengths_from : (k : ℕ) (heads : List Head) (rows : List (List Slot)) → all_have_length (length rows) (columns_from k heads rows) ≡ true
 lengths_from k [] rows = refl
-lengths_from k (head ∷ heads) rows = rw (length-map rows (λ row. slot_at row k), eq-eqb (length rows) (length rows) refl) (lengths_from (suc k) heads rows)
+lengths_from k (head ∷ heads) rows = rw (height_from k head rows, eq-eqb (length rows) (length rows) refl) (lengths_from (suc k) heads rows)
 
-pub aligned : (heads : List Head) (rows : List (List Slot)) → all_have_length (frame_height (fresh_from 0 heads rows)) (fresh_from 0 heads rows) ≡ true
+pub aligned : (heads : List Head) (rows : List (List Slot)) → all_have_length (frame_height (columns_from 0 heads rows)) (columns_from 0 heads rows) ≡ true
 aligned [] rows = refl
-aligned (head ∷ heads) rows =
-    ap (λ n. all_have_length n (fresh_from 0 (head ∷ heads) rows)) (length-map rows (λ row. slot_at row 0)) ∙ lengths_from 0 (head ∷ heads) rows
+aligned (head ∷ heads) rows = ap (λ n. all_have_length n (columns_from 0 (head ∷ heads) rows)) (height_from 0 head rows) ∙ lengths_from 0 (head ∷ heads) rows
 
-pub short_columns : (k : ℕ) (heads : List Head) (rows : List (List Slot)) → length rows + 1 < 2 ^ 63 → AllByRecursion (λ c. length c.slots + 1 < 2 ^ 63) (fresh_from k heads rows)
-short_columns k [] rows h = tt
-short_columns k (head ∷ heads) rows h = (rw (length-map rows (λ row. slot_at row k)) h, short_columns (suc k) heads rows h)
+module _ (asked : List ℕ → Bool) where
+  built_length : (k : ℕ) (head : Head) (rows : List (List Slot)) → length (map (kept_slot (asked head.name)) (slots_of_column k rows)) ≡ length rows
+  built_length k head rows = length-map (slots_of_column k rows) (kept_slot (asked head.name)) ∙ length-map rows (λ row. slot_at row k)
+
+  pub roomy_columns : (k : ℕ) (heads : List Head) (rows : List (List Slot)) → length rows + 1 < 2 ^ 63 → AllByRecursion IsRoomy (built_from asked k heads rows)
+  roomy_columns k [] rows h = tt
+  roomy_columns k (head ∷ heads) rows h =
+      let few : length (map (kept_slot (asked head.name)) (slots_of_column k rows)) + 1 < 2 ^ 63 = rw (built_length k head rows) h in
+      (few, roomy_columns (suc k) heads rows h)
+
+  pub whole_columns : (k : ℕ) (heads : List Head) (rows : List (List Slot)) → length rows ≤ 4294967295 → AllByRecursion IsWhole (built_from asked k heads rows)
+  whole_columns k [] rows h = tt
+  whole_columns k (head ∷ heads) rows h =
+      let few : length (map (kept_slot (asked head.name)) (slots_of_column k rows)) ≤ 4294967295 = rw (built_length k head rows) h in
+      let first : IsWhole (built_of (asked head.name) head (slots_of_column k rows)) = record { fresh = refl; few = few } in
+      (first, whole_columns (suc k) heads rows h)
 
 -- ---- the heads of a header
 
@@ -168,18 +213,12 @@ none_repeated : (b : Bool) (name : List ℕ) (o : Option (List ℕ)) → b ≡ f
 none_repeated b name o e h = rw (e, h)
 
 module _ (k : ℕ) (seen : List (List ℕ)) (field : List ℕ) (fields : List (List ℕ)) (heads : List Head) (e : heads_from k seen (field ∷ fields) ≡ Ok heads) where
-  first_head : (is_readable field ≡ true) × (list_any (bytes_eq (head_of field).name) seen ≡ false)
+  first_head : (is_utf8 field ≡ true) × (list_any (bytes_eq (head_of field).name) seen ≡ false)
       × ((rest : List Head) × (heads_from (suc k) ((head_of field).name ∷ seen) fields ≡ Ok rest) × (heads ≡ head_of field ∷ rest))
-  first_head = head_taken (is_readable field) (list_any (bytes_eq (head_of field).name) seen) _ _ (head_of field) _ heads e
+  first_head = head_taken (is_utf8 field) (list_any (bytes_eq (head_of field).name) seen) _ _ (head_of field) _ heads e
 
 pub distinct_from : (k : ℕ) (seen : List (List ℕ)) (fields : List (List ℕ)) (heads : List Head) → heads_from k seen fields ≡ Ok heads → repeated_after seen (map (λ h. h.name) heads) ≡ None
 distinct_from k seen [] heads e = let none : heads ≡ [] = cc in rw none
 distinct_from k seen (field ∷ fields) heads e =
     let p = first_head k seen field fields heads e in
     rw p.2.2 (none_repeated _ _ _ p.1 (distinct_from (suc k) ((head_of field).name ∷ seen) fields p.2.0 p.2.1))
-
-pub read_from : (k : ℕ) (seen : List (List ℕ)) (fields : List (List ℕ)) (heads : List Head) → heads_from k seen fields ≡ Ok heads → are_read heads ≡ true
-read_from k seen [] heads e = let none : heads ≡ [] = cc in rw none
-read_from k seen (field ∷ fields) heads e =
-    let p = first_head k seen field fields heads e in
-    rw (p.2.2, (and_parts (is_utf8 field) (is_read (head_of field).dtype) p.0).1) (read_from (suc k) ((head_of field).name ∷ seen) fields p.2.0 p.2.1)

@@ -1,7 +1,5 @@
 -- A reader and the columns of what it has read.
 use Rattle.std.proofs.Common.{◌≡◌, ℕ, ◌+◌, ◌≤◌, true, false, inr, List, [], ◌∷◌, ◌++◌, length, map, refl, sym, ◌∙◌, ap, Some, None, Ok, Err, All, Bor}
-use Rattle.std.specs.List.{AllByRecursion}
-use Rattle.std.proofs.lemmas.List.Elements.{All-from_recursion}
 use Rattle.csv.specs.declared.parser.State.TheVariants as st
 use Rattle.csv.specs.declared.reader.Reader.{Reader}
 use Rattle.csv.specs.declared.reader.ReaderBuilder.{ReaderBuilder}
@@ -9,12 +7,12 @@ use Rattle.csv.specs.declared.reader.Trim.TheVariants as trim
 use Rattle.csv.specs.Reading.{Reached, ReadRecord, default_config, source_of, strip_bom, with_flexible, with_names_headers}
 use Rattle.csv.proofs.ReadFacts.{rows-end, rows-more}
 use Rattle.gb_defs.specs.Table.{TableFault, NoHeader, table}
+use Rattle.std.specs.List.{filter_map}
 use Rattle.gb_defs.specs.Column.{IsFrame}
-use Rattle.gb_series.specs.declared.series.Series.{Series}
-use Rattle.gb_series.specs.Series.{value_of}
-use Rattle.gb_cols.specs.Column.{HasRoom}
+use Rattle.gb_tool.specs.Asked.{asked_table, is_asked}
+use Rattle.gb_tool.specs.Building.{Building, IsRoomy, IsWhole, read_if_kept}
 use Rattle.gb_tool.specs.Table.{GivesRecords, HasRecordsOf, columns_with, columns_of_header, left_of}
-use Rattle.gb_tool.proofs.ReadingLemmas.{IsReading, no_header, header_bad, reading_header, reading_more, reading_bad, reading_end, reading_frame, reading_room}
+use Rattle.gb_tool.proofs.ReadingLemmas.{IsReading, no_header, header_bad, reading_header, reading_more, reading_bad, reading_end, reading_frame, reading_roomy, reading_whole}
 
 -- a reader of a builder that names no headers and is flexible
 pub records_given : (new named made : ReaderBuilder) (reader : Reader (Bor (List ℕ))) → named ≡ with_names_headers new false → made ≡ with_flexible named true → new.config ≡ default_config → new.trim ≡ trim.None
@@ -27,68 +25,66 @@ records_given new named made reader e f config how c t h flexible none = record 
 }
 
 -- the columns are those of the records that the reader has given
-pub record IsTaking (null_word bytes : List ℕ) (row : ℕ) (columns : List Series) (reader : Reader (Bor (List ℕ))) : Type 0 where
+pub record IsTaking (names : List (List ℕ)) (null_word bytes : List ℕ) (row : ℕ) (columns : List Building) (reader : Reader (Bor (List ℕ))) : Type 0 where
   pub gives : GivesRecords reader
   pub left : List ℕ
   pub source : source_of left_of reader ≡ Some left
-  pub reading : IsReading null_word bytes row (map value_of columns) reader.state left
+  pub reading : IsReading names null_word bytes row columns reader.state left
 
-pub room_of : (columns : List Series) → AllByRecursion HasRoom (map value_of columns) → AllByRecursion (λ column. HasRoom (value_of column)) columns
-room_of [] h = tt
-room_of (column ∷ columns) h = (h.0, room_of columns h.1)
-
-module _ (null_word bytes : List ℕ) where
+module _ (names : List (List ℕ)) (null_word bytes : List ℕ) where
   -- ---- the header
 
   module _ (a b : Reader (Bor (List ℕ))) (start : HasRecordsOf bytes a) where
     pub taking_none : (fields : List (List ℕ)) → ReadRecord left_of a b false fields → table bytes null_word ≡ Err NoHeader
     unfolding Reached
     taking_none fields r =
-        no_header null_word bytes a.state (strip_bom bytes) (sym start.state, refl) (rows-end left_of a b fields default_config (strip_bom bytes) start.gives.config start.source r)
+        no_header names null_word bytes a.state (strip_bom bytes) (sym start.state, refl) (rows-end left_of a b fields default_config (strip_bom bytes) start.gives.config start.source r)
 
     module _ (header : List (List ℕ)) (r : ReadRecord left_of a b true header) where
       reached : (z : List ℕ) × (source_of left_of b ≡ Some z) × Reached default_config st.StartRecord (strip_bom bytes) (header ∷ []) b.state z
       unfolding Reached
       reached = rows-more left_of a b header default_config st.StartRecord (strip_bom bytes) (strip_bom bytes) [] start.gives.config start.source (sym start.state, refl) r
 
-      pub taking_no_columns : (fault : TableFault) → columns_of_header header ≡ Err fault → table bytes null_word ≡ Err fault
-      taking_no_columns fault e = header_bad null_word bytes header b.state reached.0 reached.2 fault e
+      pub taking_no_columns : (fault : TableFault) → columns_of_header (is_asked names) header ≡ Err fault → table bytes null_word ≡ Err fault
+      taking_no_columns fault e = header_bad names null_word bytes header b.state reached.0 reached.2 fault e
 
-      pub taking_header : GivesRecords b → (columns : List Series) → columns_of_header header ≡ Ok (map value_of columns) → IsTaking null_word bytes 1 columns b
+      pub taking_header : GivesRecords b → (columns : List Building) → columns_of_header (is_asked names) header ≡ Ok columns → IsTaking names null_word bytes 1 columns b
       taking_header goes columns e = record {
         gives = goes;
         left = reached.0;
         source = reached.1;
-        reading = reading_header null_word bytes header (map value_of columns) b.state reached.0 reached.2 e;
+        reading = reading_header names null_word bytes header columns b.state reached.0 reached.2 e;
       }
 
   -- ---- the records below it
 
-  module _ (row : ℕ) (columns : List Series) (a : Reader (Bor (List ℕ))) (s : IsTaking null_word bytes row columns a) where
-    pub taking_room : length bytes ≤ 4294967295 → All (λ column. HasRoom (value_of column)) columns
-    taking_room few =
-        All-from_recursion (λ column. HasRoom (value_of column)) columns (room_of columns (reading_room null_word bytes row (map value_of columns) a.state s.left s.reading few))
+  module _ (row : ℕ) (columns : List Building) (a : Reader (Bor (List ℕ))) (s : IsTaking names null_word bytes row columns a) where
+    pub taking_roomy : length bytes ≤ 4294967295 → All IsRoomy columns
+    taking_roomy few = reading_roomy names null_word bytes row columns a.state s.left s.reading few
 
-    pub taking_frame : IsFrame (map value_of columns)
-    taking_frame = reading_frame null_word bytes row (map value_of columns) a.state s.left s.reading
+    pub taking_whole : length bytes ≤ 4294967295 → All IsWhole columns
+    taking_whole few = reading_whole names null_word bytes row columns a.state s.left s.reading few
+
+    pub taking_frame : IsFrame (filter_map read_if_kept columns)
+    taking_frame = reading_frame names null_word bytes row columns a.state s.left s.reading
 
     module _ (b : Reader (Bor (List ℕ))) where
-      pub taking_all : (fields : List (List ℕ)) → ReadRecord left_of a b false fields → table bytes null_word ≡ Ok (map value_of columns)
+      pub taking_all : (fields : List (List ℕ)) → ReadRecord left_of a b false fields → asked_table names bytes null_word ≡ Ok (filter_map read_if_kept columns)
       taking_all fields r =
-          reading_end null_word bytes row (map value_of columns) a.state s.left s.reading (rows-end left_of a b fields default_config s.left s.gives.config s.source r)
+          reading_end names null_word bytes row columns a.state s.left s.reading (rows-end left_of a b fields default_config s.left s.gives.config s.source r)
 
       module _ (fields : List (List ℕ)) (r : ReadRecord left_of a b true fields) where
         further : (z : List ℕ) × (source_of left_of b ≡ Some z) × Reached default_config st.StartRecord (strip_bom bytes) ((s.reading.header ∷ s.reading.rows) ++ fields ∷ []) b.state z
         further = rows-more left_of a b fields default_config st.StartRecord (strip_bom bytes) s.left (s.reading.header ∷ s.reading.rows) s.gives.config s.source s.reading.reached r
 
-        pub taking_bad : (fault : TableFault) → columns_with null_word row (map value_of columns) fields ≡ Err fault → table bytes null_word ≡ Err fault
-        taking_bad fault e = reading_bad null_word bytes row (map value_of columns) a.state s.left s.reading fields b.state further.0 further.2 fault e
+        pub taking_bad : (fault : TableFault) → columns_with null_word row columns fields ≡ Err fault → table bytes null_word ≡ Err fault
+        taking_bad fault e = reading_bad names null_word bytes row columns a.state s.left s.reading fields b.state further.0 further.2 fault e
 
-        pub taking_more : GivesRecords b → (columns' : List Series) → columns_with null_word row (map value_of columns) fields ≡ Ok (map value_of columns')
-            → IsTaking null_word bytes (row + 1) columns' b
+        pub taking_more : GivesRecords b → (columns' : List Building) → columns_with null_word row columns fields ≡ Ok columns'
+            → IsTaking names null_word bytes (row + 1) columns' b
         taking_more goes columns' e = record {
           gives = goes;
           left = further.0;
           source = further.1;
-          reading = reading_more null_word bytes row (map value_of columns) a.state s.left s.reading fields (map value_of columns') b.state further.0 further.2 e;
+          reading = reading_more names null_word bytes row columns a.state s.left s.reading fields columns' b.state further.0 further.2 e;
         }

@@ -14,7 +14,7 @@ use Rattle.std.proofs.lemmas.Str.Pattern.{starts_text}
 use Rattle.gb_defs.specs.Cell.{is_numeral}
 use Rattle.gb_defs.specs.Fold.{Sum, Count}
 use Rattle.gb_defs.specs.Request.{Given, agg_of, given_from, group_of, nothing, number_within, request, with_explain, with_option}
-use Rattle.gb_cols.proofs.DigitLemmas.{digits_model, numeral_tells}
+use Rattle.gb_numbers.proofs.DigitLemmas.{digits_model, numeral_tells}
 
 -- what `strip_prefix` says, by `starts_with`
 pub strips : (n s : List ℕ) (r : Option (Bor (List ℕ))) → MatchOption r (FindsTextPrefix n s None) (λ x. StripsPrefix (FindsTextPrefix n) s x.now) →

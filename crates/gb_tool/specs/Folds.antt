@@ -6,7 +6,7 @@ use Rattle.gb_defs.specs.Column.{ColumnValue, fresh_column}
 use Rattle.gb_defs.specs.Fold.{Method, Sum, fold_of, number_slot, sum_type}
 use Rattle.gb_defs.specs.Groups.{AreMembers, Grouping, HasRowNumbers, lists_in}
 use Rattle.gb_defs.specs.Fault.{Fault, has_sum, unfit_operation, unfit_or}
-use Rattle.gb_cols.specs.PlSmallStr.{name_of}
+use Rattle.gb_base.specs.PlSmallStr.{name_of}
 use Rattle.gb_tool.specs.declared.words.Agg.{Agg}
 use Rattle.gb_tool.specs.Request.{method_of}
 

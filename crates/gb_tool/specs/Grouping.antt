@@ -5,7 +5,7 @@ use Rattle.gb_defs.specs.Fold.{Method}
 use Rattle.gb_defs.specs.Answer.{aggregated}
 use Rattle.gb_defs.specs.Fault.{Fault, unfit_at, unfit_or}
 use Rattle.gb_defs.specs.Groups.{Grouping, first_of}
-use Rattle.gb_cols.specs.PlSmallStr.{name_of}
+use Rattle.gb_base.specs.PlSmallStr.{name_of}
 use Rattle.gb_tool.specs.declared.words.Agg.{Agg}
 use Rattle.gb_tool.specs.Request.{method_of}
 

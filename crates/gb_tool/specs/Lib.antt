@@ -1,3 +1,6 @@
+pub mod Asked
+pub mod Builder
+pub mod Building
 pub mod FaultText
 pub mod Folds
 pub mod Grouping

@@ -3,7 +3,7 @@ use Rattle.std.specs.Prelude.{◌≡◌, ℕ, ◌+◌, Bool, List, [], ◌∷◌
 use Rattle.csv.specs.declared.parser.State.TheVariants as st
 use Rattle.csv.specs.Machine.{Read, next_record}
 use Rattle.csv.specs.Reading.{default_config}
-use Rattle.gb_defs.specs.Column.{Frame}
+use Rattle.gb_tool.specs.Building.{Building}
 use Rattle.gb_tool.specs.Table.{columns_with}
 
 -- what a record with these fields, and maybe more from the rest of the text, reads as
@@ -22,7 +22,7 @@ pub record IsCut (text cell rest : List ℕ) (last : Bool) : Type 0 where
   pub reads : (fields : List (List ℕ)) → next_record default_config st.StartField fields [] text ≡ after_cell last (fields ++ cell ∷ []) rest
 
 -- the columns have the slots of the record in front of the text, and the rest stands behind it
-pub record TakesLine (null_word : List ℕ) (old new : Frame) (text rest : List ℕ) : Type 0 where
+pub record TakesLine (null_word : List ℕ) (old new : List Building) (text rest : List ℕ) : Type 0 where
   pub fields : List (List ℕ)
   pub reads : BeginsWith fields text rest
   pub takes : (row : ℕ) → columns_with null_word row old fields ≡ Ok new

@@ -2,8 +2,8 @@
 use Rattle.std.specs.Prelude.{◌≡◌, ℕ, List, [], ◌∷◌, length, map}
 use Rattle.gb_defs.specs.Fold as fold
 use Rattle.gb_defs.specs.Request as asked
-use Rattle.gb_cols.specs.PlSmallStr.{name_of}
-use Rattle.gb_cols.specs.declared.small_str.PlSmallStr.{PlSmallStr}
+use Rattle.gb_base.specs.PlSmallStr.{name_of}
+use Rattle.gb_base.specs.declared.small_str.PlSmallStr.{PlSmallStr}
 use Rattle.gb_tool.specs.declared.words.GroupByMethod.{GroupByMethod}
 use Rattle.gb_tool.specs.declared.words.GroupByMethod.TheVariants.{Sum, Count}
 use Rattle.gb_tool.specs.declared.words.Agg.{Agg}

@@ -6,7 +6,7 @@ use Rattle.gb_defs.specs.Fault.{Fault}
 use Rattle.gb_defs.specs.Outcome.{Outcome, BadTable, BadGroup, Report, outcome}
 use Rattle.gb_defs.specs.Request as asked
 use Rattle.gb_defs.specs.Table as table
-use Rattle.gb_cols.specs.Device.{Rose}
+use Rattle.gb_base.specs.Device.{Rose}
 use Rattle.gb_tool.specs.Status.{Tells, fault_value}
 use Rattle.gb_tool.specs.declared.status.Status.{Status}
 use Rattle.gb_tool.specs.declared.status.Status.TheVariants.{Done, Usage, Table, Group, ReadFault, WriteFault, TooLong, NoMemory}

@@ -2,10 +2,10 @@
 use Rattle.std.specs.Prelude.{◌≡◌, ◌≢◌, ℕ, List, Option, Some, None}
 use Rattle.gb_defs.specs.Fault as fault
 use Rattle.gb_defs.specs.Table as table
-use Rattle.gb_cols.specs.PolarsError.{cause_of}
-use Rattle.gb_cols.specs.PlSmallStr.{name_of}
-use Rattle.gb_cols.specs.declared.error.PolarsError.{PolarsError}
-use Rattle.gb_cols.specs.declared.error.PolarsError.TheVariants as polars
+use Rattle.gb_base.specs.PolarsError.{cause_of}
+use Rattle.gb_base.specs.PlSmallStr.{name_of}
+use Rattle.gb_base.specs.declared.error.PolarsError.{PolarsError}
+use Rattle.gb_base.specs.declared.error.PolarsError.TheVariants as polars
 use Rattle.gb_tool.specs.declared.status.TableFault.{TableFault}
 use Rattle.gb_tool.specs.declared.status.TableFault.TheVariants.{NoHeader, SameName, Ragged, BadCell}
 use Rattle.gb_tool.specs.declared.status.TableError.{TableError}

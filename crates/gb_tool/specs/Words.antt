@@ -1,7 +1,7 @@
 -- What contracts see of what words gave so far.
 use Rattle.std.specs.Prelude.{map, option_map}
 use Rattle.gb_defs.specs.Request as asked
-use Rattle.gb_cols.specs.PlSmallStr.{name_of}
+use Rattle.gb_base.specs.PlSmallStr.{name_of}
 use Rattle.gb_tool.specs.Request.{aggs_of}
 use Rattle.gb_tool.specs.declared.words.given.Given.{Given}
 use Rattle.gb_tool.specs.declared.words.numbers.Numbers.{Numbers}

@@ -2,7 +2,7 @@
 //! plain grouping of the texts of the cells.
 
 use crate::tests::{source_of, status_through};
-use gb_cols::memory::{FreeGate, MemSink};
+use gb_base::memory::{FreeGate, MemSink};
 use std::alloc::{AllocError, Global};
 use std::test::Fail;
 use std::thread::Threads;
@@ -10,7 +10,7 @@ use std::thread::Threads;
 const ROWS: usize = 1000;
 
 /// The words but those of decimals, which have the places behind them.
-const WORDS: [&str; 22] = [
+const WORDS: [&str; 24] = [
     "null",
     "bool",
     "u8",
@@ -32,10 +32,12 @@ const WORDS: [&str; 22] = [
     "duration_ms",
     "str",
     "bin",
+    "cat",
+    "lexcat",
     "dec0",
 ];
 
-const COLUMNS: usize = 60;
+const COLUMNS: usize = 62;
 
 // The word of the column at a place.
 fn word_at(alloc: Global, place: usize) -> Result<String, Fail> {
@@ -47,7 +49,7 @@ fn word_at(alloc: Global, place: usize) -> Result<String, Fail> {
 
 // How many digits the decimals at a place have behind the point.
 fn scale_at(place: usize) -> usize {
-    place.saturating_sub(21)
+    place.saturating_sub(23)
 }
 
 // A cell, which prints as it reads.
@@ -70,7 +72,7 @@ fn word_cell(alloc: Global, word: &str, class: usize) -> Result<String, Fail> {
             Ok(String::from_str(alloc, flag)?)
         }
         "u8" | "u16" | "u32" | "u64" => Ok(format!(in alloc; "{class}")?),
-        "str" => Ok(format!(in alloc; "t{class}")?),
+        "str" | "cat" | "lexcat" => Ok(format!(in alloc; "t{class}")?),
         "bin" => Ok(format!(in alloc; "{}", class.wrapping_add(10))?),
         _ => Ok(format!(in alloc; "-{class}")?),
     }

@@ -3,7 +3,7 @@
 
 use crate::status::{Status, TableFault};
 use crate::tests::{source_of, status_through};
-use gb_cols::memory::{FreeGate, MemSink};
+use gb_base::memory::{FreeGate, MemSink};
 use std::alloc::Global;
 use std::test::Fail;
 use std::thread::Threads;
@@ -248,12 +248,51 @@ const NULL_RUNS: [(&str, &str, u8, &str); 6] = [
     ("group --by k", "k,n:null\nx,1\n", 3, ""),
 ];
 
-#[test]
-fn nothing_but_nulls(rt: HostRuntime) -> Result<(), Fail> {
-    for (words, input, code, wanted) in NULL_RUNS {
-        let (status, sink) = run_of(&rt, rt.alloc(), words, input)?;
-        assert_eq!(rt; status.code(), code);
-        assert_eq!(rt; sink.bytes(), wanted.as_bytes());
+/// The same of columns of categories, whose groups come as they first stand and not as they are coded.
+const CATEGORY_RUNS: [(&str, &str, u8, &str); 7] = [
+    (
+        "group --by k --agg sum:v --agg count:k",
+        "k:cat,v:i64\nb,1\na,2\n,4\nb,8\n,16\n",
+        0,
+        "k:cat,v_sum:i64,k_count:u32\nb,9,2\na,2,1\n,20,2\n",
+    ),
+    (
+        "group --by k --agg sum:v --workers 4 --threshold 1",
+        "k:lexcat,v:i64\nb,1\na,2\n,4\nb,8\n,16\n",
+        0,
+        "k:lexcat,v_sum:i64\nb,9\na,2\n,20\n",
+    ),
+    ("group --by k", "k:cat\n", 0, "k:cat\n"),
+    ("group --by k", "k:cat\n\"a\nb\"\n", 0, "k:cat\n\"a\nb\"\n"),
+    (
+        "group --by k --agg count:c",
+        "k,c:cat\nx,a\nx,\n",
+        0,
+        "k:str,c_count:u32\nx,2\n",
+    ),
+    ("group --by k --agg sum:c", "k,c:lexcat\nx,a\n", 4, ""),
+    ("group --by k", "k:cat,v:i64\nx,1\ny,z\n", 3, ""),
+];
+
+// Whether each of these runs ends and writes so.
+fn run_as_listed<R: Threads + Sync>(
+    rt: &R,
+    alloc: Global,
+    runs: &[(&str, &str, u8, &str)],
+) -> Result<bool, Fail> {
+    for (words, input, code, wanted) in runs {
+        let (status, sink) = run_of(rt, alloc, words, input)?;
+        if status.code() != *code || sink.bytes() != wanted.as_bytes() {
+            return Ok(false);
+        }
     }
+    Ok(true)
+}
+
+#[test]
+fn nulls_and_categories(rt: HostRuntime) -> Result<(), Fail> {
+    let alloc = rt.alloc();
+    assert!(rt; run_as_listed(&rt, alloc, &NULL_RUNS)?);
+    assert!(rt; run_as_listed(&rt, alloc, &CATEGORY_RUNS)?);
     Ok(())
 }

@@ -1,8 +1,8 @@
 //! That the pieces of a grouping run side by side, which no clause says.
 
 use crate::tests::{source_of, status_through};
-use gb_cols::device::Gate;
-use gb_cols::memory::MemSink;
+use gb_base::device::Gate;
+use gb_base::memory::MemSink;
 use std::sync::atomic::{AtomicU64, Ordering};
 use std::test::Fail;
 

@@ -6,10 +6,10 @@ ghost use Rattle.gb_defs.specs.Column.{IsFrame, content, find_column, frame_heig
 ghost use Rattle.gb_defs.specs.Fault.{rows_fault, missing_fault, unfit_fault};
 ghost use Rattle.gb_defs.specs.Answer.{aggregated};
 ghost use Rattle.gb_defs.specs.Outcome.{grouped};
-ghost use Rattle.gb_cols.specs.PolarsError.{Explains};
+ghost use Rattle.gb_base.specs.PolarsError.{Explains};
 ghost use Rattle.gb_defs.specs.Classes.{groups, rows_below, same_slot};
 ghost use Rattle.gb_defs.specs.Groups.{AreMembers, HasRowNumbers, IsWellFormed, lists_in};
-ghost use Rattle.gb_cols.specs.PlSmallStr.{IsNoMemory, name_of};
+ghost use Rattle.gb_base.specs.PlSmallStr.{IsNoMemory, name_of};
 ghost use Rattle.gb_groups.specs.GroupsType.{groups_of};
 ghost use Rattle.gb_series.specs.Series.{value_of};
 ghost use Rattle.gb_tool.specs.Grouping.{aggregates_over, answer_parts, firsts_in, unfit_cause};
@@ -18,11 +18,11 @@ ghost use Rattle.gb_tool.specs.Text.{contents_of};
 
 use crate::folds::aggregate;
 use crate::words::Agg;
-use gb_cols::device::Gate;
-use gb_cols::error::{PolarsError, PolarsResult};
-use gb_cols::pool::Pool;
+use gb_base::device::Gate;
+use gb_base::error::{PolarsError, PolarsResult};
+use gb_base::pool::Pool;
+use gb_base::small_str::PlSmallStr;
 use gb_cols::series_trait::SeriesTrait;
-use gb_cols::small_str::PlSmallStr;
 use gb_groups::groups_type::GroupsType;
 use gb_paths::into_groups::group_tuples_gated;
 use gb_series::frame::DataFrame;

@@ -23,8 +23,8 @@ mod words;
 
 use crate::run::{Limits, run};
 use crate::status::Status;
-use gb_cols::memory::FreeGate;
-use gb_cols::standard::{StderrSink, StdinSource, StdoutSink};
+use gb_base::memory::FreeGate;
+use gb_base::standard::{StderrSink, StdinSource, StdoutSink};
 use std::env;
 use std::io::ErrorKind;
 use std::process::ExitCode;

@@ -2,7 +2,9 @@
 
 ghost use Rattle.std.specs.Prelude.{◌≡◌, ◌≤◌, IfErr, IfOk, length};
 ghost use Rattle.gb_defs.specs.Outcome.{Report, outcome};
-ghost use Rattle.gb_tool.specs.Request.{HasOneKey, group_by, request_of};
+ghost use Rattle.gb_base.specs.PlSmallStr.{name_of};
+ghost use Rattle.gb_tool.specs.Asked.{asked_names, names_in};
+ghost use Rattle.gb_tool.specs.Request.{HasOneKey, aggs_of, group_by, request_of};
 ghost use Rattle.gb_tool.specs.Run.{IsRefusedReport};
 
 use crate::grouping::group_frame;
@@ -10,10 +12,10 @@ use crate::status::Status;
 use crate::table::table_of;
 use crate::text;
 use crate::words::{Agg, Request, ToolOptions};
-use gb_cols::device::Gate;
-use gb_cols::pool::Pool;
-use gb_cols::small_str::PlSmallStr;
-use std::alloc::Global;
+use gb_base::device::Gate;
+use gb_base::pool::Pool;
+use gb_base::small_str::PlSmallStr;
+use std::alloc::{AllocError, Global};
 use std::thread::Threads;
 
 // The pool that the options ask, each within its bounds.
@@ -49,6 +51,23 @@ pub fn report<R: Threads + Sync, G: Gate + Sync>(
     }
 }
 
+// The names of the key and of the columns that are aggregated.
+fn names_asked<'a>(
+    alloc: Global,
+    by: &'a PlSmallStr,
+    aggs: &'a [Agg],
+) -> Result<Vec<&'a str>, AllocError>
+    ensures { let asked = asked_names (name_of by.now) (aggs_of aggs.now) in
+        IfOk result (λ names. names_in names.items ≡ asked) }
+{
+    let mut names = Vec::with_capacity(alloc, aggs.len() + 1)?;
+    names.push(by.as_str())?;
+    for agg in aggs {
+        names.push(agg.column.as_str())?;
+    }
+    Ok(names)
+}
+
 // The text of the grouped table.
 fn group_report<R: Threads + Sync, G: Gate + Sync>(
     rt: &R,
@@ -66,7 +85,8 @@ fn group_report<R: Threads + Sync, G: Gate + Sync>(
         IsRefusedReport s (outcome (group_by by.now aggs.now options.now) bytes.now)) }
 {
     let null_word = options.null_word.as_str();
-    let frame = table_of(alloc, bytes, null_word)?;
+    let names = names_asked(alloc, by, aggs)?;
+    let frame = table_of(alloc, bytes, null_word, &names)?;
     let answer = group_frame(rt, alloc, &frame, by, aggs, &pool_of(options), gate)?;
     Ok(text::text_of(alloc, &answer, null_word)?)
 }

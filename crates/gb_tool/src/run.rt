@@ -4,11 +4,11 @@ ghost use Rattle.std.specs.Prelude.{◌≡◌, ◌≢◌, ◌≤◌, ◌+◌, �
 ghost use Rattle.gb_defs.specs.Fault as fault;
 ghost use Rattle.gb_defs.specs.Outcome.{BadGroup, BadTable, Report};
 ghost use Rattle.gb_defs.specs.Table as table;
-ghost use Rattle.gb_cols.specs.Device.{Rose};
-ghost use Rattle.gb_cols.specs.PlSmallStr.{name_of};
-ghost use Rattle.gb_cols.specs.declared.small_str.PlSmallStr.{PlSmallStr};
-ghost use Rattle.gb_cols.specs.declared.error.PolarsError.{PolarsError};
-ghost use Rattle.gb_cols.specs.declared.error.PolarsError.TheVariants.{ColumnNotFound, ComputeError};
+ghost use Rattle.gb_base.specs.Device.{Rose};
+ghost use Rattle.gb_base.specs.PlSmallStr.{name_of};
+ghost use Rattle.gb_base.specs.declared.small_str.PlSmallStr.{PlSmallStr};
+ghost use Rattle.gb_base.specs.declared.error.PolarsError.{PolarsError};
+ghost use Rattle.gb_base.specs.declared.error.PolarsError.TheVariants.{ColumnNotFound, ComputeError};
 ghost use Rattle.gb_tool.specs.Run.{Comes, HasCause, HasTaken, Holds, HoldsPart, IsOneOf};
 ghost use Rattle.gb_tool.specs.Run.{IsReadToEnd, IsTable, IsTooLong, OfOutcome, Run, WhereTold, Writes};
 ghost use Rattle.gb_tool.specs.Run.{asked_by, has_ended, status_of, task_of};
@@ -20,7 +20,7 @@ use crate::report::report;
 use crate::status::Status;
 use crate::streams::{read_all, write_text};
 use crate::words::request_of;
-use gb_cols::device::{Gate, Sink, Source};
+use gb_base::device::{Gate, Sink, Source};
 use std::alloc::Global;
 use std::thread::Threads;
 

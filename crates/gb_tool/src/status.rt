@@ -2,7 +2,7 @@
 
 ghost use Rattle.std.specs.Prelude.{◌≡◌};
 
-use gb_cols::error::PolarsError;
+use gb_base::error::PolarsError;
 use std::alloc::AllocError;
 use std::fmt;
 use thiserror::Error;

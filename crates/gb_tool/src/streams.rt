@@ -1,12 +1,12 @@
 //! Reading the input whole, and writing the answer whole.
 
 ghost use Rattle.std.specs.Prelude.{◌≡◌, ◌≢◌, ◌≤◌, ◌+◌, ◌<◌, ◌++◌, [], length, Err, IfErr, IfOk, IfSome, OnErr, OnOk, Some, option_map, vec_len};
-ghost use Rattle.gb_cols.specs.Device.{Rose};
+ghost use Rattle.gb_base.specs.Device.{Rose};
 ghost use Rattle.gb_tool.specs.Run.{HasMoved, HasTaken, Holds, HoldsPart, IsInputFault, IsPieceFault, IsReadToEnd};
 ghost use Rattle.gb_tool.specs.declared.status.Status.TheVariants as status;
 
 use crate::status::Status;
-use gb_cols::device::{Failed, Sink, Source};
+use gb_base::device::{Failed, Sink, Source};
 use std::alloc::Global;
 
 /// How many bytes are asked for at a time.

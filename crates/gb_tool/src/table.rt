@@ -1,28 +1,33 @@
 //! A table's text, read as a frame: in place where it is plain, and else by `csv`, which tells each
 //! fault at its place.
 
+mod builder;
 mod column;
 mod header;
 mod plain;
 #[cfg(test)]
 mod tests;
 
-ghost use Rattle.std.specs.Prelude.{◌≡◌, ◌≤◌, true, length, map, Ok, Err, OnOk, OnErr, IfOk, IfErr};
+ghost use Rattle.std.specs.Prelude.{◌≡◌, ◌≤◌, ◌++◌, [], true, length, map, All, Ok, Err, OnOk, OnErr, IfOk, IfErr};
+ghost use Rattle.std.specs.List.{cons_option, filter_map};
 ghost use Rattle.gb_defs.specs.Column.{IsFrame};
 ghost use Rattle.gb_defs.specs.Table.{table};
-ghost use Rattle.gb_cols.specs.PlSmallStr.{IsNoMemory};
+ghost use Rattle.gb_base.specs.PlSmallStr.{IsNoMemory};
 ghost use Rattle.gb_series.specs.Series.{value_of};
+ghost use Rattle.gb_tool.specs.Asked.{asked_table, names_in};
+ghost use Rattle.gb_tool.specs.Building.{IsWhole, read_if_kept};
 ghost use Rattle.gb_tool.specs.Refusal.{IsRefusedTable};
 ghost use Rattle.gb_tool.specs.Table.{GivesRecords, HasRecordsOf, left_of};
 ghost use Rattle.csv.specs.Reading.{ReadRecord};
 ghost use Rattle.csv.specs.Records.{fields_of};
 
 use crate::status::{TableError, TableFault};
+use crate::table::builder::ColumnBuilder;
 use crate::table::column::push_record;
 use crate::table::header::columns_of_header;
 use crate::table::plain::plain_table;
 use csv::{ByteRecord, Reader, ReaderBuilder};
-use gb_cols::error::{PolarsError, PolarsResult};
+use gb_base::error::{PolarsError, PolarsResult};
 use gb_series::frame::DataFrame;
 use gb_series::series::Series;
 use std::alloc::{AllocError, AllocFailed, Global};
@@ -61,29 +66,64 @@ pub fn only_memory<T>(called: PolarsResult<T>) -> Result<T, AllocError>
     }
 }
 
-// The frame of columns of one length with different names.
-fn frame_of(columns: Vec<Series>) -> Result<DataFrame, AllocError>
-    requires { IsFrame (map value_of columns.items) }
-    ensures { IfOk result (λ frame. frame ≡ map value_of columns.items) }
+// The column of a builder behind those before, where its slots were kept.
+fn push_finished(columns: &mut Vec<Series>, builder: ColumnBuilder) -> Result<(), AllocError>
+    requires { IsWhole builder }
+    ensures { let kept = cons_option (read_if_kept builder) [] in
+        OnOk result (map value_of columns.new.items ≡ map value_of columns.old.items ++ kept) }
 {
-    match DataFrame::new(columns) {
+    match builder.finish()? {
+        Some(column) => {
+            columns.push(column)?;
+            Ok(())
+        }
+        None => Ok(()),
+    }
+}
+
+// The columns whose slots were kept.
+fn finished(builders: Vec<ColumnBuilder>) -> Result<Vec<Series>, AllocError>
+    requires { All IsWhole builders.items }
+    ensures { let kept = filter_map read_if_kept builders.items in
+        IfOk result (λ columns. map value_of columns.items ≡ kept) }
+{
+    let mut columns = Vec::new(*builders.allocator());
+    for builder in builders {
+        push_finished(&mut columns, builder)?;
+    }
+    Ok(columns)
+}
+
+// The frame of the columns whose slots were kept. They have one length and different names.
+fn frame_of(builders: Vec<ColumnBuilder>) -> Result<DataFrame, AllocError>
+    requires whole { All IsWhole builders.items }
+    requires frame { IsFrame (filter_map read_if_kept builders.items) }
+    ensures { IfOk result (λ frame. frame ≡ filter_map read_if_kept builders.items) }
+{
+    match DataFrame::new(finished(builders)?) {
         Ok(frame) => Ok(frame),
         Err(PolarsError::NoMemory) => Err(AllocError),
         Err(_) => unreachable!(),
     }
 }
 
-/// The frame that the bytes are, by typed CSV. Reading ends at the first fault, which tells its row and
-/// column.
-pub fn table_of(alloc: Global, bytes: &[u8], null_word: &str) -> Result<DataFrame, TableError>
+/// The columns of these names of the frame that the bytes are, by typed CSV. Every cell of every column
+/// is checked, and reading ends at the first fault, which tells its row and column.
+pub fn table_of(
+    alloc: Global,
+    bytes: &[u8],
+    null_word: &str,
+    names: &[&str],
+) -> Result<DataFrame, TableError>
     requires { length bytes.now ≤ 4294967295 }
-    ensures ok { IfOk result (λ frame. table bytes.now null_word.now ≡ Ok frame) }
+    ensures ok { let read = asked_table (names_in names.now) bytes.now null_word.now in
+        IfOk result (λ frame. read ≡ Ok frame) }
     ensures err { IfErr result (λ e. IsRefusedTable e (table bytes.now null_word.now)) }
 {
-    if let Some(frame) = plain_table(alloc, bytes, null_word)? {
+    if let Some(frame) = plain_table(alloc, bytes, null_word, names)? {
         return Ok(frame);
     }
-    csv_table(alloc, bytes, null_word)
+    csv_table(alloc, bytes, null_word, names)
 }
 
 // A reader of the records of a text, the header among them.
@@ -110,10 +150,16 @@ fn read_record(reader: &mut Reader<&[u8]>, fields: &mut ByteRecord) -> Result<bo
     }
 }
 
-// The frame that the bytes are, read by `csv`.
-fn csv_table(alloc: Global, bytes: &[u8], null_word: &str) -> Result<DataFrame, TableError>
+// The frame of the columns that are asked for, read by `csv`.
+fn csv_table(
+    alloc: Global,
+    bytes: &[u8],
+    null_word: &str,
+    names: &[&str],
+) -> Result<DataFrame, TableError>
     requires { length bytes.now ≤ 4294967295 }
-    ensures ok { IfOk result (λ frame. table bytes.now null_word.now ≡ Ok frame) }
+    ensures ok { let read = asked_table (names_in names.now) bytes.now null_word.now in
+        IfOk result (λ frame. read ≡ Ok frame) }
     ensures err { IfErr result (λ e. IsRefusedTable e (table bytes.now null_word.now)) }
 {
     let mut reader = reader_of(alloc, bytes);
@@ -122,7 +168,7 @@ fn csv_table(alloc: Global, bytes: &[u8], null_word: &str) -> Result<DataFrame, 
     if !found {
         return Err(TableError::Fault(TableFault::NoHeader));
     }
-    let mut columns = columns_of_header(alloc, &fields)?;
+    let mut columns = columns_of_header(alloc, &fields, names)?;
     for row in 1..u64::MAX {
         let found = read_record(&mut reader, &mut fields)?;
         if !found {

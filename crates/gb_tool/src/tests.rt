@@ -4,9 +4,9 @@ ghost use Rattle.std.specs.Prelude.{◌≤◌};
 
 use crate::run::{Limits, run};
 use crate::status::{Status, TableError, TableFault};
-use gb_cols::device::{Failed, Gate, Source};
-use gb_cols::error::PolarsError;
-use gb_cols::memory::{FreeGate, MemSink, SoundSource};
+use gb_base::device::{Failed, Gate, Source};
+use gb_base::error::PolarsError;
+use gb_base::memory::{FreeGate, MemSink, SoundSource};
 use std::alloc::Global;
 use std::test::Fail;
 use std::thread::Threads;
@@ -328,8 +328,8 @@ const BAD_TABLES: [BadTable; 12] = [
         fault: TableFault::SameName(2),
     },
     BadTable {
-        input: b"a,b:cat\n",
-        fault: TableFault::BadCell(0, 2),
+        input: b"a,b:cat\nx,\xFF\n",
+        fault: TableFault::BadCell(1, 2),
     },
     BadTable {
         input: b"a,a,b:i32\n",

@@ -6,14 +6,14 @@ ghost use Rattle.gb_defs.specs.Classes.{rows_below};
 ghost use Rattle.gb_defs.specs.Column.{content};
 ghost use Rattle.gb_defs.specs.Text.{frame_text, header_field, header_line, row_line};
 ghost use Rattle.gb_cols.specs.Column.{cell_of};
-ghost use Rattle.gb_cols.specs.PlSmallStr.{IsNoMemory};
+ghost use Rattle.gb_base.specs.PlSmallStr.{IsNoMemory};
 ghost use Rattle.gb_series.specs.Series.{value_of};
 ghost use Rattle.gb_tool.specs.Text.{EndsRow, TakesField, TakesRows, contents_of};
 
 use crate::table::only_memory;
 use crate::type_word::put_word;
 use csv::{Writer, WriterBuilder};
-use gb_cols::error::{PolarsError, PolarsResult};
+use gb_base::error::{PolarsError, PolarsResult};
 use gb_cols::series_trait::SeriesTrait;
 use gb_series::frame::DataFrame;
 use gb_series::series::Series;
@@ -52,7 +52,7 @@ fn put_head(
     field.clear();
     field.extend_from_slice(column.name().as_str().as_bytes())?;
     field.push(b':')?;
-    put_word(dtype, field)?;
+    put_word(&dtype, field)?;
     put_field(writer, field.as_slice())
 }
 

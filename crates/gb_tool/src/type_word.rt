@@ -1,11 +1,13 @@
 //! The words of types in a table's header.
 
-ghost use Rattle.std.specs.Prelude.{◌≡◌, ◌++◌, codes, decimal, option_map, IfSome, OnOk};
-ghost use Rattle.gb_defs.specs.TypeWord.{scale_of, type_word, unit_word as word_of_unit};
-ghost use Rattle.gb_cols.specs.DataType.{HasColumn, type_of, unit_of};
-ghost use Rattle.gb_tool.specs.Head.{decimal_scales, decimal_type_of, read_type, scale_among};
+ghost use Rattle.std.specs.Prelude.{◌≡◌, ◌++◌, codes, decimal, map, option_map, IfSome, OnOk};
+ghost use Rattle.gb_defs.specs.TypeWord.{category_word as word_of_categories, field_words, scale_of, type_word, unit_word as word_of_unit};
+ghost use Rattle.gb_base.specs.DataType.{fields_of, ordering_of, part_of, type_of, unit_of};
+ghost use Rattle.gb_tool.specs.Builder.{IsNamed};
+ghost use Rattle.gb_tool.specs.Head.{decimal_scales, decimal_type_of, named_type, scale_among};
 
-use gb_cols::data_type::{DataType, TimeUnit};
+use gb_base::data_type::{CategoricalOrdering, DataType, TimeUnit};
+use gb_base::field::Field;
 use itoa::Buffer;
 use std::alloc::AllocError;
 
@@ -60,17 +62,17 @@ fn decimal_scale(word: &str) -> Option<usize>
 // The decimal type that a word names.
 fn decimal_type(word: &str) -> Option<DataType>
     ensures value { option_map type_of result ≡ decimal_type_of word.now }
-    ensures column { IfSome result HasColumn }
+    ensures named { IfSome result IsNamed }
 {
     let scale = decimal_scale(word)?;
     Some(DataType::Decimal(None, Some(scale)))
 }
 
-/// The type that a word names, None where it names none whose cells are read.
+/// The type that a word names.
 #[tactic(auto, unfolding(gb_defs::specs::TypeWord::type_words))]
 pub fn dtype_of(word: &str) -> Option<DataType>
-    ensures value { option_map type_of result ≡ read_type word.now }
-    ensures column { IfSome result HasColumn }
+    ensures value { option_map type_of result ≡ named_type word.now }
+    ensures named { IfSome result IsNamed }
 {
     match word {
         "null" => Some(DataType::Null),
@@ -94,8 +96,8 @@ pub fn dtype_of(word: &str) -> Option<DataType>
         "duration_ms" => Some(DataType::Duration(TimeUnit::Milliseconds)),
         "str" => Some(DataType::String),
         "bin" => Some(DataType::Binary),
-        "cat" => None,
-        "lexcat" => None,
+        "cat" => Some(DataType::Categorical(None, CategoricalOrdering::Physical)),
+        "lexcat" => Some(DataType::Categorical(None, CategoricalOrdering::Lexical)),
         _ => decimal_type(word),
     }
 }
@@ -119,8 +121,10 @@ fn put_decimal(to: &mut Vec<u8>, scale: Option<usize>) -> Result<(), AllocError>
 }
 
 /// The word of a type, behind what is there.
-pub fn put_word(dtype: DataType, to: &mut Vec<u8>) -> Result<(), AllocError>
-    ensures { OnOk result (to.new.items ≡ to.old.items ++ type_word (type_of dtype)) }
+#[cycle(words)]
+#[tactic(auto, using(gb_base::proofs::DataTypeLemmas::list_type, gb_base::proofs::DataTypeLemmas::array_type, gb_base::proofs::DataTypeLemmas::struct_type,))]
+pub fn put_word(dtype: &DataType, to: &mut Vec<u8>) -> Result<(), AllocError>
+    ensures { OnOk result (to.new.items ≡ to.old.items ++ type_word (type_of dtype.now)) }
 {
     match dtype {
         DataType::Null => put(to, "null"),
@@ -134,20 +138,74 @@ pub fn put_word(dtype: DataType, to: &mut Vec<u8>) -> Result<(), AllocError>
         DataType::Int32 => put(to, "i32"),
         DataType::Int64 => put(to, "i64"),
         DataType::Int128 => put(to, "i128"),
-        DataType::Decimal(_, scale) => put_decimal(to, scale),
+        DataType::Decimal(_, scale) => put_decimal(to, *scale),
         DataType::Date => put(to, "date"),
         DataType::Time => put(to, "time"),
         DataType::Datetime(unit) => {
             put(to, "datetime_")?;
-            put(to, unit_word(unit))
+            put(to, unit_word(*unit))
         }
         DataType::Duration(unit) => {
             put(to, "duration_")?;
-            put(to, unit_word(unit))
+            put(to, unit_word(*unit))
         }
         DataType::String => put(to, "str"),
         DataType::Binary => put(to, "bin"),
         DataType::BinaryOffset => put(to, "binoff"),
+        DataType::Categorical(_, ordering) => put(to, category_word(*ordering)),
+        DataType::Enum(_, _) => put(to, "enum"),
+        DataType::List(inner) => {
+            put(to, "list[")?;
+            put_word(inner.as_ref(), to)?;
+            put(to, "]")
+        }
+        DataType::Array(inner, width) => {
+            put(to, "array[")?;
+            put_word(inner.as_ref(), to)?;
+            put_width(to, *width)?;
+            put(to, "]")
+        }
+        DataType::Struct(fields) => {
+            put(to, "struct[")?;
+            put_parts(fields.as_slice(), to)?;
+            put(to, "]")
+        }
+    }
+}
+
+// The words of the parts of a struct, with commas between them, behind what is there.
+#[cycle(words)]
+fn put_parts(fields: &[Field], to: &mut Vec<u8>) -> Result<(), AllocError>
+    ensures { let words = field_words (fields_of (map part_of fields.now)) in
+        OnOk result (to.new.items ≡ to.old.items ++ words) }
+{
+    let Some((first, rest)) = fields.split_first() else {
+        return Ok(());
+    };
+    put_word(&first.dtype, to)?;
+    for field in rest {
+        put(to, ",")?;
+        put_word(&field.dtype, to)?;
+    }
+    Ok(())
+}
+
+// The width of an array, behind what is there.
+fn put_width(to: &mut Vec<u8>, width: usize) -> Result<(), AllocError>
+    ensures { OnOk result (to.new.items ≡ to.old.items ++ codes ";" ++ decimal width) }
+{
+    put(to, ";")?;
+    let mut digits = Buffer::new();
+    put(to, digits.format(width))
+}
+
+// The word of categories.
+fn category_word(ordering: CategoricalOrdering) -> &'static str
+    ensures { result.now ≡ word_of_categories (ordering_of ordering) }
+{
+    match ordering {
+        CategoricalOrdering::Physical => "cat",
+        CategoricalOrdering::Lexical => "lexcat",
     }
 }
 

@@ -6,14 +6,14 @@ pub mod numbers;
 ghost use Rattle.std.specs.Prelude.{◌≡◌, IfErr, IfOk, map, option_map};
 ghost use Rattle.std.specs.String.{string_bytes};
 ghost use Rattle.gb_defs.specs.Request as asked;
-ghost use Rattle.gb_cols.specs.PlSmallStr.{IsNoMemory, name_of};
+ghost use Rattle.gb_base.specs.PlSmallStr.{IsNoMemory, name_of};
 ghost use Rattle.gb_tool.specs.Request as made;
 ghost use Rattle.gb_tool.specs.Words.{given_of, numbers_of};
 
 use crate::words::given::Given;
 use crate::words::numbers::Numbers;
-use gb_cols::error::PolarsResult;
-use gb_cols::small_str::PlSmallStr;
+use gb_base::error::PolarsResult;
+use gb_base::small_str::PlSmallStr;
 use std::alloc::Global;
 
 /// What is made of the slots of a column at the rows of a group.

@@ -3,10 +3,10 @@
 use super::{AllAlike, Unmixed};
 use crate::group_by::group_uncounted;
 use crate::threaded::group_by_threaded_slice;
-use gb_cols::error::PolarsResult;
-use gb_cols::memory::FreeGate;
-use gb_cols::nullable_idx::IdxSize;
-use gb_cols::pool::Pool;
+use gb_base::error::PolarsResult;
+use gb_base::memory::FreeGate;
+use gb_base::nullable_idx::IdxSize;
+use gb_base::pool::Pool;
 use gb_defs::slow;
 use gb_groups::groups_type::{GroupsIndicator, GroupsType};
 use gb_hash::mixer::{Mixer, SeedMixer};

@@ -5,7 +5,7 @@ ghost use Rattle.std.specs.Prelude.{ℕ, pos, nat_eq};
 ghost use Rattle.std.specs.Int.{w64};
 ghost use Rattle.gb_defs.specs.Rows.{rows_of_slots};
 ghost use Rattle.gb_defs.specs.Slot.{Num};
-ghost use Rattle.gb_cols.specs.Native.{Decides-pos};
+ghost use Rattle.gb_numbers.specs.Native.{Decides-pos};
 ghost use Rattle.gb_hash.specs.Keys.{key_slots, keys_decide_by, slots_alike};
 
 use super::Unmixed;

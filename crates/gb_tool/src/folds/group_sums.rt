@@ -5,23 +5,25 @@ ghost use Rattle.gb_defs.specs.Column.{ColumnValue};
 ghost use Rattle.gb_defs.specs.ColumnType.{Flat};
 ghost use Rattle.gb_defs.specs.Fold.{Sum};
 ghost use Rattle.gb_defs.specs.Groups.{lists_in};
-ghost use Rattle.gb_cols.specs.PlSmallStr.{IsNoMemory, name_of};
+ghost use Rattle.gb_base.specs.PlSmallStr.{IsNoMemory, name_of};
 ghost use Rattle.gb_groups.specs.GroupsType.{groups_of};
 ghost use Rattle.gb_tool.specs.Folds.{AreGroupsOf, fold_column, fold_in, sums_of_column};
 
 use crate::folds::fold_groups;
 use crate::folds::number_fold::{FlagSum, SumOf};
+use gb_base::error::PolarsResult;
+use gb_base::small_str::PlSmallStr;
 use gb_cols::binary::{BinaryChunked, BinaryOffsetChunked};
 use gb_cols::boolean::BooleanChunked;
 use gb_cols::chunked::{ChunkedArray, StringChunked};
-use gb_cols::error::PolarsResult;
-use gb_cols::logical::{Logical, LogicalKind};
 use gb_cols::null::NullChunked;
-use gb_cols::numeric::{PolarsNumericType, UInt32Chunked};
-use gb_cols::primitive::NumberValues;
+use gb_cols::primitive::UInt32Chunked;
 use gb_cols::series_trait::SeriesTrait;
-use gb_cols::small_str::PlSmallStr;
 use gb_groups::groups_type::GroupsType;
+use gb_logical::categorical::CategoricalChunked;
+use gb_logical::logical::{Logical, LogicalKind};
+use gb_numbers::numeric::PolarsNumericType;
+use gb_values::primitive::NumberValues;
 
 /// A column that may have sums over groups.
 pub trait GroupSums {
@@ -137,6 +139,17 @@ impl GroupSums for BinaryOffsetChunked {
 
     fn group_sums(&self, _name: PlSmallStr, _groups: &GroupsType) -> PolarsResult<Option<Self>> {
         let _ = self.allocator();
+        Ok(None)
+    }
+}
+
+impl GroupSums for CategoricalChunked {
+    type Sums = CategoricalChunked;
+
+    ghost column = { λ c. c };
+
+    fn group_sums(&self, _name: PlSmallStr, _groups: &GroupsType) -> PolarsResult<Option<Self>> {
+        let _ = self.get_rev_map();
         Ok(None)
     }
 }

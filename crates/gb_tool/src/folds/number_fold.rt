@@ -6,17 +6,18 @@ ghost use Rattle.gb_defs.specs.ColumnType.{Boolean, Flat};
 ghost use Rattle.gb_defs.specs.Slot.{Slot};
 ghost use Rattle.gb_defs.specs.Fold.{wrap, total, valid, picked, Count, Sum, fold_of};
 ghost use Rattle.gb_defs.specs.Groups.{AreMembers, HasRowNumbers};
-ghost use Rattle.gb_cols.specs.Array.{flag_number, native_slot};
+ghost use Rattle.gb_base.specs.AnyValue.{flag_number};
+ghost use Rattle.gb_values.specs.Array.{native_slot};
 ghost use Rattle.gb_series.specs.Series.{value_of};
 ghost use Rattle.gb_tool.specs.Folds.{fold_in, rows_fold};
 
 use gb_cols::boolean::BooleanChunked;
 use gb_cols::chunked::ChunkedArray;
-use gb_cols::numeric::{Native, PolarsNumericType, UInt32Type};
-use gb_cols::primitive::NumberValues;
 use gb_cols::series_trait::SeriesTrait;
 use gb_groups::groups_idx::IdxSize;
+use gb_numbers::numeric::{Native, PolarsNumericType, UInt32Type};
 use gb_series::series::Series;
+use gb_values::primitive::NumberValues;
 
 /// The rows of a group, by place.
 pub trait GroupRows {

@@ -6,11 +6,11 @@ ghost use Rattle.gb_groups.specs.GroupsType.{groups_of};
 
 use super::fold_group;
 use super::number_fold::{NumberFold, RowCount, RowList, SumOf, ValidCount};
-use gb_cols::chunked::Int64Chunked;
-use gb_cols::numeric::PolarsNumericType;
-use gb_cols::small_str::PlSmallStr;
+use gb_base::small_str::PlSmallStr;
+use gb_cols::primitive::Int64Chunked;
 use gb_groups::groups_slice::GroupsSlice;
 use gb_groups::groups_type::GroupsType;
+use gb_numbers::numeric::PolarsNumericType;
 use gb_series::series::Series;
 use std::alloc::Global;
 use std::test::Fail;

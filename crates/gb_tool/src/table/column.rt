@@ -1,16 +1,14 @@
 //! The cells of a record, put at the ends of the columns.
 
-ghost use Rattle.std.specs.Prelude.{◌≡◌, Ok, IfErr, OnOk, All, map, true};
-ghost use Rattle.gb_cols.specs.Column.{HasRoom};
-ghost use Rattle.gb_series.specs.Series.{value_of};
+ghost use Rattle.std.specs.Prelude.{◌≡◌, Ok, IfErr, OnOk, All, true};
 ghost use Rattle.csv.specs.Records.{AllText, fields_of};
+ghost use Rattle.gb_tool.specs.Building.{IsRoomy};
 ghost use Rattle.gb_tool.specs.Refusal.{IsRefusedTable};
 ghost use Rattle.gb_tool.specs.Table.{columns_with};
 
 use crate::status::{TableError, TableFault};
+use crate::table::builder::ColumnBuilder;
 use csv::ByteRecord;
-use gb_cols::series_trait::SeriesTrait;
-use gb_series::series::Series;
 
 // Whether all bytes of the record are ASCII, by one look at them.
 fn is_ascii(fields: &ByteRecord) -> bool
@@ -23,18 +21,16 @@ fn is_ascii(fields: &ByteRecord) -> bool
 /// another number of fields than columns, or a cell that does not read. After a fault some columns may
 /// have a slot more.
 pub fn push_record(
-    columns: &mut [Series],
+    columns: &mut [ColumnBuilder],
     fields: &ByteRecord,
     row: u64,
     null_word: &str,
 ) -> Result<(), TableError>
-    requires room { All (λ column. HasRoom (value_of column)) columns.old }
-    ensures ok { let old = map value_of columns.old in
-        let frame = columns_with null_word.now row old (fields_of fields.now) in
-        OnOk result (frame ≡ Ok (map value_of columns.new)) }
-    ensures err { let old = map value_of columns.old in
-        let frame = columns_with null_word.now row old (fields_of fields.now) in
-        IfErr result (λ e. IsRefusedTable e frame) }
+    requires room { All IsRoomy columns.old }
+    ensures ok { let more = columns_with null_word.now row columns.old (fields_of fields.now) in
+        OnOk result (more ≡ Ok columns.new) }
+    ensures err { let more = columns_with null_word.now row columns.old (fields_of fields.now) in
+        IfErr result (λ e. IsRefusedTable e more) }
 {
     let found = fields.len();
     let wanted = columns.len();

@@ -1,79 +1,86 @@
 //! The columns that a header names, each by a field.
 
-ghost use Rattle.std.specs.Prelude.{◌≡◌, [], map, IfOk, IfErr, IfSome, Ok, option_map};
-ghost use Rattle.std.specs.List.{list_any};
-ghost use Rattle.std.specs.Str.{bytes_eq};
-ghost use Rattle.gb_defs.specs.Column.{fresh_column};
-ghost use Rattle.gb_defs.specs.Table.{head_of};
-ghost use Rattle.gb_defs.specs.TypeWord.{type_words};
-ghost use Rattle.gb_cols.specs.DataType.{HasColumn, type_of};
-ghost use Rattle.gb_series.specs.Series.{value_of};
-ghost use Rattle.gb_tool.specs.Head.{head_from, readable_field, readable_head, unread_words};
+ghost use Rattle.std.specs.Prelude.{◌≡◌, [], IfOk, IfErr, IfSome, Ok, option_map};
+ghost use Rattle.gb_defs.specs.Table.{Head, head_of};
+ghost use Rattle.gb_base.specs.DataType.{type_of};
+ghost use Rattle.gb_tool.specs.Asked.{is_asked, names_in};
+ghost use Rattle.gb_tool.specs.Builder.{IsNamed};
+ghost use Rattle.gb_tool.specs.Head.{head_from, readable_field};
 ghost use Rattle.gb_tool.specs.Refusal.{IsRefusedTable};
-ghost use Rattle.gb_tool.specs.Table.{columns_of_header as frame_of_header};
+ghost use Rattle.gb_tool.specs.Table.{built_of, columns_of_header as builders_of};
 ghost use Rattle.csv.specs.Records.{fields_of};
 
 use crate::status::{TableError, TableFault};
+use crate::table::builder::ColumnBuilder;
 use crate::table::only_memory;
 use crate::type_word::dtype_of;
 use csv::ByteRecord;
-use gb_cols::data_type::DataType;
-use gb_cols::small_str::PlSmallStr;
-use gb_series::series::Series;
+use gb_base::data_type::DataType;
+use gb_base::small_str::PlSmallStr;
 use std::alloc::{AllocError, Global};
 use std::collections::HashSet;
 
-// The words of the types of which no cell is read today.
-const UNREAD_WORDS: [&str; 2] = ["cat", "lexcat"];
-
-// Whether the word names a type of which no cell is read.
-fn is_unread(word: &str) -> bool
-    ensures { result ≡ list_any (λ known. bytes_eq known word.now) (unread_words type_words) }
-{
-    UNREAD_WORDS.contains(&word)
-}
-
-// The name and the type of the column that a header field names, None for a type of which no cell is
-// read.
-fn read_head(field: &str) -> Option<(&str, DataType)>
-    ensures value { option_map head_from result ≡ readable_head (head_of field.now) }
-    ensures column { IfSome result (λ head. HasColumn head.1) }
+// The name and the type of the column that a header field names.
+fn read_head(field: &str) -> (&str, DataType)
+    ensures value { head_from result ≡ head_of field.now }
+    ensures named { IsNamed result.1 }
 {
     let Some((name, word)) = field.rsplit_once(':') else {
-        return Some((field, DataType::String));
+        return (field, DataType::String);
     };
     match dtype_of(word) {
-        Some(dtype) => Some((name, dtype)),
-        None if is_unread(word) => None,
-        None => Some((field, DataType::String)),
+        Some(dtype) => (name, dtype),
+        None => (field, DataType::String),
     }
 }
 
-// The name and the type of the column that a header field names, None for bytes that are no text and
-// for a type of which no cell is read.
+// The name and the type of the column that a header field names, None for bytes that are no text.
 fn read_field(field: &[u8]) -> Option<(&str, DataType)>
     ensures value { option_map head_from result ≡ readable_field field.now }
-    ensures column { IfSome result (λ head. HasColumn head.1) }
+    ensures named { IfSome result (λ head. IsNamed head.1) }
 {
     let text = str::from_utf8(field).ok()?;
-    read_head(text)
+    Some(read_head(text))
 }
 
-// A column with no slots.
-fn empty_column(alloc: Global, name: &str, dtype: DataType) -> Result<Series, AllocError>
-    requires { HasColumn dtype }
-    ensures { IfOk result (λ c. value_of c ≡ fresh_column name.now (type_of dtype) []) }
+// Whether a name is among those that are asked for.
+fn is_asked(names: &[&str], name: &str) -> bool
+    ensures { result ≡ is_asked (names_in names.now) name.now }
+{
+    for asked in names {
+        if name == *asked {
+            return true;
+        }
+    }
+    false
+}
+
+// A column with no slots, which keeps them or not.
+fn empty_column(
+    alloc: Global,
+    name: &str,
+    dtype: DataType,
+    keeps: bool,
+) -> Result<ColumnBuilder, AllocError>
+    requires { IsNamed dtype }
+    ensures { let head : Head = record { name = name.now; dtype = type_of dtype } in
+        IfOk result (λ b. b ≡ built_of keeps head []) }
 {
     let name = only_memory(PlSmallStr::from_str(alloc, name))?;
-    Ok(Series::new_empty(alloc, name, dtype))
+    Ok(ColumnBuilder::new(alloc, name, dtype, keeps))
 }
 
 /// The columns that a header names, with no slots, or its first fault: a field that does not read, or
-/// the name of a column before.
-pub fn columns_of_header(alloc: Global, header: &ByteRecord) -> Result<Vec<Series>, TableError>
-    ensures ok { let frame = frame_of_header (fields_of header.now) in
-        IfOk result (λ columns. frame ≡ Ok (map value_of columns.items)) }
-    ensures err { IfErr result (λ e. IsRefusedTable e (frame_of_header (fields_of header.now))) }
+/// the name of a column before. Those that are asked for will keep their slots.
+pub fn columns_of_header(
+    alloc: Global,
+    header: &ByteRecord,
+    names: &[&str],
+) -> Result<Vec<ColumnBuilder>, TableError>
+    ensures ok { let asked = is_asked (names_in names.now) in
+        IfOk result (λ columns. builders_of asked (fields_of header.now) ≡ Ok columns.items) }
+    ensures err { let asked = is_asked (names_in names.now) in
+        IfErr result (λ e. IsRefusedTable e (builders_of asked (fields_of header.now))) }
 {
     let mut columns = Vec::with_capacity(alloc, header.len())?;
     let mut seen: HashSet<&str> = HashSet::new(alloc);
@@ -85,7 +92,8 @@ pub fn columns_of_header(alloc: Global, header: &ByteRecord) -> Result<Vec<Serie
         if !seen.insert(name)? {
             return Err(TableError::Fault(TableFault::SameName(place)));
         }
-        columns.push(empty_column(alloc, name, dtype)?)?;
+        let keeps = is_asked(names, name);
+        columns.push(empty_column(alloc, name, dtype, keeps)?)?;
     }
     Ok(columns)
 }

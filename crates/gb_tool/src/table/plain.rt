@@ -1,23 +1,22 @@
 //! A table with no quote and no carriage return, read in place. Whatever is not so plain is left to
 //! `csv`, which reads the same records more slowly.
 
-ghost use Rattle.std.specs.Prelude.{◌≡◌, ◌≢◌, ◌≤◌, true, length, map, All, IfErr, IfOk, IfSome, Ok};
+ghost use Rattle.std.specs.Prelude.{◌≡◌, ◌≢◌, ◌≤◌, true, length, All, IfErr, IfOk, IfSome, Ok};
 ghost use Rattle.std.specs.Bool.{OnTrue};
 ghost use Rattle.std.specs.Str.{IsAscii};
 ghost use Rattle.csv.specs.Records.{fields_of};
-ghost use Rattle.gb_cols.specs.Column.{HasRoom};
 ghost use Rattle.gb_defs.specs.Table.{table};
-ghost use Rattle.gb_series.specs.Series.{value_of};
+ghost use Rattle.gb_tool.specs.Asked.{asked_table, names_in};
+ghost use Rattle.gb_tool.specs.Building.{IsRoomy};
 ghost use Rattle.gb_tool.specs.Plain.{BeginsWith, IsCut, TakesLine};
 ghost use Rattle.gb_tool.specs.Refusal.{IsRefusedTable};
 
 use crate::status::TableError;
+use crate::table::builder::ColumnBuilder;
 use crate::table::frame_of;
 use crate::table::header::columns_of_header;
 use csv::ByteRecord;
-use gb_cols::series_trait::SeriesTrait;
 use gb_series::frame::DataFrame;
-use gb_series::series::Series;
 use std::alloc::{AllocError, Global};
 
 // The cell in front of a text, what stands behind its end, and whether its record ends there. None at
@@ -65,17 +64,15 @@ fn plain_header(alloc: Global, text: &[u8]) -> Result<Option<(ByteRecord, &[u8])
 // Puts the cells of the record in front of a text at the ends of the columns, and gives the text behind
 // it. None where it is not plain, has not a cell for each column, or a cell does not read.
 fn push_line<'a>(
-    columns: &mut [Series],
+    columns: &mut [ColumnBuilder],
     text: &'a [u8],
     ascii: bool,
     null_word: &str,
 ) -> Result<Option<&'a [u8]>, AllocError>
-    requires room { All (λ column. HasRoom (value_of column)) columns.old }
+    requires room { All IsRoomy columns.old }
     requires ascii { ascii ≡ true → IsAscii text.now }
-    ensures ok { let old = map value_of columns.old in
-        let new = map value_of columns.new in
-        IfOk result (λ found.
-        IfSome found (λ rest. TakesLine null_word.now old new text.now rest.now)) }
+    ensures ok { IfOk result (λ found. IfSome found (λ rest.
+        TakesLine null_word.now columns.old columns.new text.now rest.now)) }
     ensures ascii { IfOk result (λ found. IfSome found (λ rest. ascii ≡ true → IsAscii rest.now)) }
 {
     let mut left = text;
@@ -106,16 +103,17 @@ fn begins_record(first: u8) -> bool
     first != b'\n' && first != b'\r'
 }
 
-/// The frame that the bytes are, where they are plain and every record reads. A fault of a plain header
-/// is told here, and one behind it is left to `csv`.
+/// The frame of the columns that are asked for, where the bytes are plain and every record reads. A
+/// fault of a plain header is told here, and one behind it is left to `csv`.
 pub fn plain_table(
     alloc: Global,
     bytes: &[u8],
     null_word: &str,
+    names: &[&str],
 ) -> Result<Option<DataFrame>, TableError>
     requires { length bytes.now ≤ 4294967295 }
-    ensures ok { IfOk result (λ found.
-        IfSome found (λ frame. table bytes.now null_word.now ≡ Ok frame)) }
+    ensures ok { let read = asked_table (names_in names.now) bytes.now null_word.now in
+        IfOk result (λ found. IfSome found (λ frame. read ≡ Ok frame)) }
     ensures err { IfErr result (λ e. IsRefusedTable e (table bytes.now null_word.now)) }
 {
     // A byte order mark begins with this byte.
@@ -125,7 +123,7 @@ pub fn plain_table(
     let Some((header, rest)) = plain_header(alloc, bytes)? else {
         return Ok(None);
     };
-    let mut columns = columns_of_header(alloc, &header)?;
+    let mut columns = columns_of_header(alloc, &header, names)?;
     let ascii = rest.is_ascii();
     let mut left = rest;
     for _ in 0..u64::MAX {

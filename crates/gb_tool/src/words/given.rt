@@ -2,14 +2,14 @@
 
 ghost use Rattle.std.specs.Prelude.{◌≡◌, IfErr, IfOk, option_map};
 ghost use Rattle.gb_defs.specs.Request as asked;
-ghost use Rattle.gb_cols.specs.PlSmallStr.{IsNoMemory};
+ghost use Rattle.gb_base.specs.PlSmallStr.{IsNoMemory};
 ghost use Rattle.gb_tool.specs.Request as made;
 ghost use Rattle.gb_tool.specs.Words.{given_of};
 
 use crate::words::numbers::Numbers;
 use crate::words::{Agg, GroupByMethod};
-use gb_cols::error::PolarsResult;
-use gb_cols::small_str::PlSmallStr;
+use gb_base::error::PolarsResult;
+use gb_base::small_str::PlSmallStr;
 use std::alloc::Global;
 
 /// What the words gave so far.

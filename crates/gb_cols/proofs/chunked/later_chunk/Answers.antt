@@ -1,5 +1,5 @@
-use Rattle.gb_cols.specs.SlotOrder.{last_slot}
-use Rattle.gb_cols.proofs.SlotOrderLemmas.{last_chunk}
+use Rattle.gb_values.specs.SlotOrder.{last_slot}
+use Rattle.gb_values.proofs.SlotOrderLemmas.{last_chunk}
 use Rattle.gb_cols.proofs.chunked.later_chunk.Goals as goal
 
 pub returns-then-len-gt0-clause-slot : goal.returns-then-len-gt0-clause-slot

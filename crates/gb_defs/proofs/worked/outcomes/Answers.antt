@@ -77,9 +77,9 @@ pub returns-clause-no_header : goal.returns-clause-no_header
 unfolding outcome grouped_by table records_from next_record strip_bom head_of type_words cell_slot is_utf8 fault answer firsts is_first class fold_picked frame_text int_wrap escaped fields_text is_blank chars encode digits
 returns-clause-no_header c = refl
 
-pub returns-clause-unread_type : goal.returns-clause-unread_type
+pub returns-clause-categories : goal.returns-clause-categories
 unfolding outcome grouped_by table records_from next_record strip_bom head_of type_words cell_slot is_utf8 fault answer firsts is_first class fold_picked frame_text int_wrap escaped fields_text is_blank chars encode digits
-returns-clause-unread_type c = refl
+returns-clause-categories c = refl
 
 pub returns-clause-other_word : goal.returns-clause-other_word
 unfolding outcome grouped_by table records_from next_record strip_bom head_of type_words cell_slot is_utf8 fault answer firsts is_first class fold_picked frame_text int_wrap escaped fields_text is_blank chars encode digits

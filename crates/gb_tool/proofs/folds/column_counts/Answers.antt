@@ -5,7 +5,7 @@ use Rattle.gb_defs.specs.ColumnType.{uint32}
 use Rattle.gb_defs.specs.Groups.{lists_in}
 use Rattle.gb_groups.specs.GroupsType.{groups_of}
 use Rattle.gb_series.specs.Series.{value_of}
-use Rattle.gb_cols.specs.PlSmallStr.{name_of}
+use Rattle.gb_base.specs.PlSmallStr.{name_of}
 use Rattle.gb_paths.proofs.MemberLemmas.{members_more}
 use Rattle.gb_tool.specs.Folds.{fold_column}
 use Rattle.gb_tool.proofs.FoldingLemmas.{counted_rows}

@@ -1,7 +1,7 @@
 use Rattle.std.proofs.Common.{◌∙◌, ap, sym, option_map}
 use Rattle.gb_defs.specs.Groups.{lists_in}
 use Rattle.gb_groups.specs.GroupsType.{groups_of}
-use Rattle.gb_cols.specs.PlSmallStr.{name_of}
+use Rattle.gb_base.specs.PlSmallStr.{name_of}
 use Rattle.gb_series.specs.Series.{value_of}
 use Rattle.gb_tool.proofs.FoldingLemmas.{no_sums_told, sums_told}
 use Rattle.gb_tool.proofs.folds.column_sums.Goals as goal

@@ -4,7 +4,7 @@ use Rattle.std.proofs.lemmas.Simd.{map-map}
 use Rattle.std.proofs.lemmas.Iterator.Consumers.{YieldsList-end, YieldsList-from_first, YieldsList-turn}
 use Rattle.gb_defs.specs.ColumnType.{Flat}
 use Rattle.gb_defs.specs.Groups.{AreMembers, rows_of_pair}
-use Rattle.gb_cols.specs.PlSmallStr.{name_of}
+use Rattle.gb_base.specs.PlSmallStr.{name_of}
 use Rattle.gb_groups.specs.GroupsIndicator.{pair_of}
 use Rattle.gb_groups.specs.GroupsType.{groups_of}
 use Rattle.gb_tool.specs.Folds.{fold_column}

@@ -1,6 +1,6 @@
 use Rattle.std.proofs.Common.{◌≡◌, map}
 use Rattle.gb_defs.specs.ColumnType.{Flat}
-use Rattle.gb_cols.specs.PlSmallStr.{name_of}
+use Rattle.gb_base.specs.PlSmallStr.{name_of}
 use Rattle.gb_groups.specs.GroupsIndicator.{pair_of}
 use Rattle.gb_tool.specs.Folds.{fold_column}
 use Rattle.gb_tool.proofs.folds.fold_groups.Given as goal

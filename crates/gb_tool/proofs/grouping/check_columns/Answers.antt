@@ -1,7 +1,7 @@
 use Rattle.std.proofs.Common.{◌≡◌, ◌∙◌, ap, sym, None, arith}
 use Rattle.std.proofs.lemmas.List.{take_all}
 use Rattle.std.proofs.lemmas.Result.{err_from_is_err_and}
-use Rattle.gb_cols.specs.PolarsError.{Explains, cause_of}
+use Rattle.gb_base.specs.PolarsError.{Explains, cause_of}
 use Rattle.gb_defs.specs.Fault.{missing_fault}
 use Rattle.gb_tool.specs.Request.{aggs_of}
 use Rattle.gb_tool.proofs.CauseLemmas.{causes_at, causes_more, first_cause}

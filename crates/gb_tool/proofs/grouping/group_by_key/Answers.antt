@@ -4,8 +4,8 @@ use Rattle.std.proofs.lemmas.Result.{err_from_is_err_and, IfOk-weaker, IfErr-wea
 use Rattle.gb_defs.specs.Column.{content}
 use Rattle.gb_defs.specs.Fault.{rows_fault}
 use Rattle.gb_defs.specs.Groups.{HasRowNumbers}
-use Rattle.gb_cols.specs.PlSmallStr.{name_of}
-use Rattle.gb_cols.specs.PolarsError.{Explains, cause_of}
+use Rattle.gb_base.specs.PlSmallStr.{name_of}
+use Rattle.gb_base.specs.PolarsError.{Explains, cause_of}
 use Rattle.gb_groups.specs.GroupsType.{groups_of}
 use Rattle.gb_series.specs.Series.{value_of}
 use Rattle.gb_tool.specs.Request.{aggs_of}

@@ -1,6 +1,5 @@
-use Rattle.std.proofs.Common.{◌∙◌, sym}
 use Rattle.gb_defs.specs.TypeWord.{type_words}
-use Rattle.gb_tool.proofs.HeadLemmas.{apart, decimals_read}
+use Rattle.gb_tool.proofs.HeadLemmas.{apart}
 use Rattle.gb_tool.proofs.type_word.dtype_of.Goals as goal
 
 pub returns-in_default-clause-value : goal.returns-in_default-clause-value
@@ -29,4 +28,4 @@ returns-in_default-clause-value c = rw (
   apart _ _ c.in_default.not-bin,
   apart _ _ c.in_default.not-cat,
   apart _ _ c.in_default.not-lexcat,
-) (c.decimal_type.ensures.value ∙ sym (decimals_read c.args.word.now))
+) c.decimal_type.ensures.value

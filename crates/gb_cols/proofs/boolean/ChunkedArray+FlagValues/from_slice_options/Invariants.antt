@@ -1,5 +1,6 @@
 use Rattle.std.proofs.Common.{◌≡◌, map, take}
-use Rattle.gb_cols.specs.Array.{flag_number, native_slot}
+use Rattle.gb_base.specs.AnyValue.{flag_number}
+use Rattle.gb_values.specs.Array.{native_slot}
 use Rattle.gb_cols.proofs.boolean.ChunkedArray+FlagValues.from_slice_options.Given as goal
 
 abbrev pub invariant-loop-slot : goal.invariant-loop-slot

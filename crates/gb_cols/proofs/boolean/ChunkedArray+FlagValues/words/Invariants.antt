@@ -1,7 +1,7 @@
 use Rattle.std.proofs.Common.{◌≡◌, map}
 use Rattle.std.specs.List.{All}
 use Rattle.gb_defs.specs.ColumnType.{Boolean}
-use Rattle.gb_cols.specs.Keys.{IsToldByWord, word_key}
+use Rattle.gb_values.specs.Keys.{IsToldByWord, word_key}
 use Rattle.gb_cols.proofs.ChunkedLemmas.{front_slots}
 use Rattle.gb_cols.proofs.boolean.ChunkedArray+FlagValues.words.Given as goal
 

@@ -1,5 +1,5 @@
 use Rattle.std.proofs.Common.{◌≡◌, map}
-use Rattle.gb_cols.specs.Keys.{bytes_slot}
+use Rattle.gb_values.specs.Keys.{bytes_slot}
 use Rattle.gb_cols.proofs.ChunkedLemmas.{front_slots}
 use Rattle.gb_cols.proofs.bytes.ChunkedArray+ByteValues+K.byte_slices.Given as goal
 

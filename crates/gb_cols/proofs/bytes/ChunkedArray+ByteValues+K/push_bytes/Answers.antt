@@ -1,7 +1,7 @@
 use Rattle.std.proofs.Common.{◌∙◌, ap}
 use Rattle.gb_cols.specs.Column.{pushed}
-use Rattle.gb_cols.specs.Keys.{bytes_slot}
-use Rattle.gb_cols.specs.Sorted.{flag_of}
+use Rattle.gb_values.specs.Keys.{bytes_slot}
+use Rattle.gb_base.specs.Sorted.{flag_of}
 use Rattle.gb_cols.proofs.ChunkedLemmas.{view_pushed}
 use Rattle.gb_cols.proofs.bytes.ChunkedArray+ByteValues+K.push_bytes.Goals as goal
 

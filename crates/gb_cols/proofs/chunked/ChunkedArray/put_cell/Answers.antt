@@ -1,6 +1,6 @@
 use Rattle.std.proofs.Common.{◌∙◌, ap, option_map}
 use Rattle.gb_cols.specs.Column.{pushed}
-use Rattle.gb_cols.specs.Sorted.{flag_of}
+use Rattle.gb_base.specs.Sorted.{flag_of}
 use Rattle.gb_defs.specs.Cell.{value_of_field}
 use Rattle.gb_cols.proofs.ChunkedLemmas.{view_taken}
 use Rattle.gb_cols.proofs.chunked.ChunkedArray.put_cell.Goals as goal

@@ -1,6 +1,6 @@
 use Rattle.std.proofs.Common.{◌∙◌, ap}
 use Rattle.gb_cols.specs.Column.{pushed}
-use Rattle.gb_cols.specs.Sorted.{flag_of}
+use Rattle.gb_base.specs.Sorted.{flag_of}
 use Rattle.gb_defs.specs.Slot.{Nil}
 use Rattle.gb_cols.proofs.ChunkedLemmas.{view_pushed}
 use Rattle.gb_cols.proofs.chunked.ChunkedArray.put_null.Goals as goal

@@ -2,7 +2,7 @@ use Rattle.std.proofs.Common.{◌+◌, ◌++◌, [], length, Some, ◌∙◌, ap
 use Rattle.std.specs.List.{position}
 use Rattle.std.proofs.lemmas.List.{append-nil}
 use Rattle.gb_defs.specs.Column.{is_valid}
-use Rattle.gb_cols.specs.Column.{IsNull}
+use Rattle.gb_values.specs.Valid.{IsNull}
 use Rattle.gb_cols.proofs.ChunkedLemmas.{all_slots, before_few, before_more, each_all, each_more, from_chunk, front_all, front_slots, slots_around}
 use Rattle.gb_cols.proofs.ValidLemmas.{first_behind, first_none}
 use Rattle.gb_cols.proofs.chunked.ChunkedArraySeriesTrait.first_non_null.Goals as goal

@@ -1,6 +1,6 @@
 use Rattle.std.proofs.Common.{◌≡◌}
 use Rattle.std.specs.List.{All}
-use Rattle.gb_cols.specs.Column.{IsNull}
+use Rattle.gb_values.specs.Valid.{IsNull}
 use Rattle.gb_cols.proofs.ChunkedLemmas.{before_chunk, front_slots}
 use Rattle.gb_cols.proofs.chunked.ChunkedArraySeriesTrait.first_non_null.Given as goal
 

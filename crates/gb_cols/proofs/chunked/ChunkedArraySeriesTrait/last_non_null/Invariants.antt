@@ -1,7 +1,7 @@
 use Rattle.std.proofs.Common.{◌≡◌, MatchOption}
 use Rattle.std.specs.List.{All}
 use Rattle.gb_defs.specs.Column.{IsLastValid}
-use Rattle.gb_cols.specs.Column.{IsNull}
+use Rattle.gb_values.specs.Valid.{IsNull}
 use Rattle.gb_cols.proofs.ChunkedLemmas.{before_chunk, front_slots}
 use Rattle.gb_cols.proofs.chunked.ChunkedArraySeriesTrait.last_non_null.Given as goal
 

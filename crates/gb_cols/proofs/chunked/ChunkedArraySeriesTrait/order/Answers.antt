@@ -1,7 +1,7 @@
 use Rattle.std.proofs.Common.{◌+◌, ◌++◌, ◌∙◌, ap, sym}
-use Rattle.gb_cols.specs.SlotOrder.{last_slot}
+use Rattle.gb_values.specs.SlotOrder.{last_slot}
 use Rattle.gb_cols.proofs.ChunkedLemmas.{all_slots, from_chunk, front_all, front_more, front_slots, slots_around}
-use Rattle.gb_cols.proofs.SlotOrderLemmas.{later_chunk, order_seen, walk_chunk, walk_shut}
+use Rattle.gb_values.proofs.SlotOrderLemmas.{later_chunk, order_seen, walk_chunk, walk_shut}
 use Rattle.gb_cols.proofs.chunked.ChunkedArraySeriesTrait.order.Goals as goal
 
 pub returns-then-not-is_open : goal.returns-then-not-is_open

@@ -1,5 +1,5 @@
 use Rattle.std.proofs.Common.{◌≡◌, ◌<◌, IfSome, None, length}
-use Rattle.gb_cols.specs.SlotOrder.{fresh_walk, last_slot, later_slot, walked}
+use Rattle.gb_values.specs.SlotOrder.{fresh_walk, last_slot, later_slot, walked}
 use Rattle.gb_cols.proofs.ChunkedLemmas.{front_slots}
 use Rattle.gb_cols.proofs.chunked.ChunkedArraySeriesTrait.order.Given as goal
 

@@ -2,7 +2,7 @@ use Rattle.std.proofs.Common.{◌++◌, ◌∷◌, [], ◌∙◌, ap, sym, arith
 use Rattle.std.proofs.lemmas.List.{take_all}
 use Rattle.gb_defs.specs.Column.{rechunked}
 use Rattle.gb_cols.specs.Column.{column_of}
-use Rattle.gb_cols.specs.Sorted.{flag_of}
+use Rattle.gb_base.specs.Sorted.{flag_of}
 use Rattle.gb_cols.proofs.ChunkedLemmas.{all_slots, front_all, front_more}
 use Rattle.gb_cols.proofs.CopyLemmas.{small_whole, view_whole}
 use Rattle.gb_cols.proofs.chunked.ChunkedArraySeriesTrait.rechunk.Goals as goal

@@ -4,7 +4,7 @@ use Rattle.std.proofs.lemmas.Int.{to_z-of_z}
 use Rattle.gb_defs.specs.Column.{sliced}
 use Rattle.gb_defs.specs.Slices.{or_one}
 use Rattle.gb_cols.specs.Column.{column_of}
-use Rattle.gb_cols.specs.Sorted.{flag_of}
+use Rattle.gb_base.specs.Sorted.{flag_of}
 use Rattle.gb_cols.proofs.CopyLemmas.{small_sliced, view_sliced}
 use Rattle.gb_cols.proofs.SliceLemmas.{parts_end, shown_parts}
 use Rattle.gb_cols.proofs.chunked.ChunkedArraySeriesTrait.slice.Goals as goal

@@ -1,7 +1,7 @@
 use Rattle.std.proofs.Common.{◌∙◌, ap}
 use Rattle.gb_defs.specs.Slot.{Nil}
 use Rattle.gb_cols.specs.Column.{pushed}
-use Rattle.gb_cols.specs.PlSmallStr.{name_of}
+use Rattle.gb_base.specs.PlSmallStr.{name_of}
 use Rattle.gb_cols.proofs.NullLemmas.{null_pushed}
 use Rattle.gb_cols.proofs.null.NullChunked.put_null.Goals as goal
 

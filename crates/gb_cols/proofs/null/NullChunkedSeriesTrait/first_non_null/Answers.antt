@@ -3,7 +3,7 @@ use Rattle.std.specs.List.{position, sum}
 use Rattle.std.proofs.lemmas.List.Elements.{All-replicate}
 use Rattle.gb_defs.specs.Column.{ColumnValue, is_valid}
 use Rattle.gb_defs.specs.Slot.{Nil}
-use Rattle.gb_cols.specs.Column.{IsNull}
+use Rattle.gb_values.specs.Valid.{IsNull}
 use Rattle.gb_cols.proofs.NullLemmas.{nulls}
 use Rattle.gb_cols.proofs.ValidLemmas.{first_none}
 use Rattle.gb_cols.proofs.null.NullChunkedSeriesTrait.first_non_null.Goals as goal

@@ -4,7 +4,7 @@ use Rattle.std.proofs.lemmas.List.Elements.{All-replicate}
 use Rattle.gb_defs.specs.Column.{ColumnValue}
 use Rattle.gb_defs.specs.ColumnType as column
 use Rattle.gb_defs.specs.Slot.{Nil}
-use Rattle.gb_cols.specs.PlSmallStr.{name_of}
+use Rattle.gb_base.specs.PlSmallStr.{name_of}
 use Rattle.gb_cols.proofs.NullLemmas.{null_length, sum_last}
 use Rattle.gb_cols.proofs.null.NullChunkedSeriesTrait.len.Goals as goal
 

@@ -1,7 +1,7 @@
 use Rattle.std.proofs.Common.{◌∙◌, ap, sym, length, ◌++◌, ◌∷◌, []}
 use Rattle.std.specs.List.{count_by, sum}
 use Rattle.gb_defs.specs.Slot.{is_nil}
-use Rattle.gb_cols.specs.PlSmallStr.{name_of}
+use Rattle.gb_base.specs.PlSmallStr.{name_of}
 use Rattle.gb_cols.proofs.NullLemmas.{null_length, null_slots_count}
 use Rattle.gb_cols.proofs.null.NullChunkedSeriesTrait.null_count.Goals as goal
 

@@ -5,7 +5,7 @@ use Rattle.std.proofs.lemmas.Int.{to_z-of_z}
 use Rattle.gb_defs.specs.Column.{sliced}
 use Rattle.gb_defs.specs.Slices.{or_one, slice_end, slice_start}
 use Rattle.gb_cols.specs.Null.{null_column}
-use Rattle.gb_cols.specs.PlSmallStr.{name_of}
+use Rattle.gb_base.specs.PlSmallStr.{name_of}
 use Rattle.gb_cols.proofs.NullLemmas.{null_length}
 use Rattle.gb_cols.proofs.NullSliceLemmas.{counts_end, made_few, null_sliced, shown_counts}
 use Rattle.gb_cols.proofs.null.NullChunkedSeriesTrait.slice.Goals as goal

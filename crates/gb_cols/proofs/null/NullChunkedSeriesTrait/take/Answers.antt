@@ -2,7 +2,7 @@ use Rattle.std.proofs.Common.{◌∙◌, ap, sym, subst, length, ◌<◌, ◌++�
 use Rattle.std.specs.List.{All}
 use Rattle.gb_defs.specs.Column.{ColumnValue, taken}
 use Rattle.gb_cols.specs.Null.{null_column}
-use Rattle.gb_cols.specs.PlSmallStr.{name_of}
+use Rattle.gb_base.specs.PlSmallStr.{name_of}
 use Rattle.gb_cols.proofs.NullLemmas.{null_column_taken}
 use Rattle.gb_cols.proofs.null.NullChunkedSeriesTrait.take.Goals as goal
 

@@ -1,7 +1,7 @@
 use Rattle.std.proofs.Common.{◌∙◌, ap}
-use Rattle.gb_cols.specs.Array.{native_slot}
+use Rattle.gb_values.specs.Array.{native_slot}
 use Rattle.gb_cols.specs.Column.{pushed}
-use Rattle.gb_cols.specs.Sorted.{flag_of}
+use Rattle.gb_base.specs.Sorted.{flag_of}
 use Rattle.gb_cols.proofs.ChunkedLemmas.{view_pushed}
 use Rattle.gb_cols.proofs.primitive.ChunkedArray+NumberValues+T.put.Goals as goal
 

@@ -1,6 +1,6 @@
 use Rattle.std.proofs.Common.{◌≡◌, map}
 use Rattle.std.specs.List.{All}
-use Rattle.gb_cols.specs.Keys.{IsToldByWide, wide_key}
+use Rattle.gb_values.specs.Keys.{IsToldByWide, wide_key}
 use Rattle.gb_cols.proofs.ChunkedLemmas.{front_slots}
 use Rattle.gb_cols.proofs.primitive.ChunkedArray+NumberValues+T.wide_words.Given as goal
 

@@ -1,9 +1,10 @@
 use Rattle.std.proofs.Common.{List, map, ◌∙◌, ap, subst}
 use Rattle.std.specs.List.{All}
 use Rattle.gb_defs.specs.Slot.{Slot}
-use Rattle.gb_cols.specs.Keys.{IsToldByWord, word_key, key_slot}
+use Rattle.gb_values.specs.Keys.{IsToldByWord, word_key, key_slot}
 use Rattle.gb_cols.proofs.ChunkedLemmas.{all_slots, each_all, each_more}
-use Rattle.gb_cols.proofs.KeyLemmas.{chunk_last, chunk_more, words_are}
+use Rattle.gb_cols.proofs.KeyLemmas.{chunk_last, chunk_more}
+use Rattle.gb_values.proofs.KeyLemmas.{words_are}
 use Rattle.gb_cols.proofs.primitive.ChunkedArray+NumberValues+T.words.Goals as goal
 
 pub loop-chunk-preserved : goal.loop-chunk-preserved

@@ -1,6 +1,6 @@
 use Rattle.std.proofs.Common.{◌∙◌, ap, nat_lt}
 use Rattle.gb_defs.specs.Slot.{is_nil}
-use Rattle.gb_cols.proofs.FlagLemmas.{some_counted}
+use Rattle.gb_values.proofs.FlagLemmas.{some_counted}
 use Rattle.gb_cols.proofs.series_trait.SeriesTrait.has_nulls.Goals as goal
 
 pub returns : goal.returns

@@ -1,7 +1,7 @@
 use Rattle.std.specs.Int.{w64}
 use Rattle.std.proofs.lemmas.Int.{to_z-of_z}
 use Rattle.gb_series.proofs.series.SeriesSeriesTrait.slice.Goals as goal
-use Rattle.gb_series.proofs.series.SeriesSeriesTrait.slice.Goals.{in-Null+in_ok-slice-in-Null, in-Boolean+in_ok-slice-in-Boolean, in-UInt8+in_ok-slice-in-UInt8, in-UInt16+in_ok-slice-in-UInt16, in-UInt32+in_ok-slice-in-UInt32, in-UInt64+in_ok-slice-in-UInt64, in-Int8+in_ok-slice-in-Int8, in-Int16+in_ok-slice-in-Int16, in-Int32+in_ok-slice-in-Int32, in-Int64+in_ok-slice-in-Int64, in-Int128+in_ok-slice-in-Int128, in-Decimal+in_ok-slice-in-Decimal, in-Date+in_ok-slice-in-Date, in-Datetime+in_ok-slice-in-Datetime, in-Duration+in_ok-slice-in-Duration, in-Time+in_ok-slice-in-Time, in-String+in_ok-slice-in-String, in-Binary+in_ok-slice-in-Binary, in-BinaryOffset+in_ok-slice-in-BinaryOffset}
+use Rattle.gb_series.proofs.series.SeriesSeriesTrait.slice.Goals.{in-Null+in_ok-slice-in-Null, in-Boolean+in_ok-slice-in-Boolean, in-UInt8+in_ok-slice-in-UInt8, in-UInt16+in_ok-slice-in-UInt16, in-UInt32+in_ok-slice-in-UInt32, in-UInt64+in_ok-slice-in-UInt64, in-Int8+in_ok-slice-in-Int8, in-Int16+in_ok-slice-in-Int16, in-Int32+in_ok-slice-in-Int32, in-Int64+in_ok-slice-in-Int64, in-Int128+in_ok-slice-in-Int128, in-Decimal+in_ok-slice-in-Decimal, in-Date+in_ok-slice-in-Date, in-Datetime+in_ok-slice-in-Datetime, in-Duration+in_ok-slice-in-Duration, in-Time+in_ok-slice-in-Time, in-String+in_ok-slice-in-String, in-Binary+in_ok-slice-in-Binary, in-BinaryOffset+in_ok-slice-in-BinaryOffset, in-Categorical+in_ok-slice-in-Categorical}
 
 pub returns-clause-ok : goal.returns-clause-ok
 returns-clause-ok c =
@@ -26,4 +26,5 @@ returns-clause-ok c =
       | in-String+in_ok-slice-in-String w ↦ let ok = rw back at w.in_ok-slice-in-String.ensures.ok in rw (w.result-is, w.in-String.is) ok
       | in-Binary+in_ok-slice-in-Binary w ↦ let ok = rw back at w.in_ok-slice-in-Binary.ensures.ok in rw (w.result-is, w.in-Binary.is) ok
       | in-BinaryOffset+in_ok-slice-in-BinaryOffset w ↦ let ok = rw back at w.in_ok-slice-in-BinaryOffset.ensures.ok in rw (w.result-is, w.in-BinaryOffset.is) ok
+      | in-Categorical+in_ok-slice-in-Categorical w ↦ let ok = rw back at w.in_ok-slice-in-Categorical.ensures.ok in rw (w.result-is, w.in-Categorical.is) ok
     ]

@@ -1,4 +1,4 @@
-use Rattle.std.proofs.Common.{◌∙◌, sym}
+use Rattle.std.proofs.Common.{◌∙◌, Some, ap, sym}
 use Rattle.std.proofs.lemmas.Str.{IsUtf8-from_is_utf8, is_utf8-from_IsUtf8}
 use Rattle.std.proofs.lemmas.Bool.{false_from_ne_true}
 use Rattle.std.specs.Str.{is_utf8}
@@ -15,4 +15,4 @@ pub returns-clause-value : goal.returns-clause-value
 returns-clause-value c =
     let text = its_text c.args.field.now _ c.from_utf8.result c.in_ok-text.text c.from_utf8.ensures.cases (sym c.ok.ensures.value ∙ c.in_ok-text.was) in
     let right = is_utf8-from_IsUtf8 c.args.field.now text.1 in
-    rw right (rw text.0 at c.read_head.ensures.value)
+    rw right (ap (λ h. Some h) (rw text.0 at c.read_head.ensures.value))

@@ -1,11 +1,10 @@
-use Rattle.std.proofs.Common.{◌∙◌, sym, ap, arith}
-use Rattle.gb_cols.specs.DataType.{type_of}
-use Rattle.gb_tool.specs.Head.{readable_head}
-use Rattle.gb_tool.proofs.HeadLemmas.{plain_head, colon_head, typed_head, unread_head, whole_head}
+use Rattle.std.proofs.Common.{sym, arith}
+use Rattle.gb_base.specs.DataType.{type_of}
+use Rattle.gb_tool.proofs.HeadLemmas.{plain_head, colon_head, typed_head, whole_head}
 use Rattle.gb_tool.proofs.table.header.read_head.Goals as goal
 
 pub returns-in_default-clause-value : goal.returns-in_default-clause-value
-returns-in_default-clause-value c = sym (ap readable_head (plain_head c.args.field.now c.in_default.ensures.cases))
+returns-in_default-clause-value c = sym (plain_head c.args.field.now c.in_default.ensures.cases)
 
 pub returns-in-Some-dtype_of-clause-value : goal.returns-in-Some-dtype_of-clause-value
 returns-in-Some-dtype_of-clause-value c =
@@ -17,10 +16,4 @@ pub returns-in-None-clause-value : goal.returns-in-None-clause-value
 returns-in-None-clause-value c =
     let s = c.in-Some.ensures.cases in
     let cut = colon_head c.args.field.now c.in-Some.name.now c.in-Some.word.now s.0 s.1 s.2.0 s.2.1 s.3 s.4 (omega (arith, s.7)) in
-    sym (unread_head c.args.field.now c.in-Some.name.now c.in-Some.word.now cut c.in-None.ensures.value (sym c.is_unread.ensures ∙ c.if-is_unread.true))
-
-pub returns-in-None-2-clause-value : goal.returns-in-None-2-clause-value
-returns-in-None-2-clause-value c =
-    let s = c.in-Some.ensures.cases in
-    let cut = colon_head c.args.field.now c.in-Some.name.now c.in-Some.word.now s.0 s.1 s.2.0 s.2.1 s.3 s.4 (omega (arith, s.7)) in
-    sym (whole_head c.args.field.now c.in-Some.name.now c.in-Some.word.now cut c.in-None-2.ensures.value (sym c.is_unread.ensures ∙ c.if-is_unread.false))
+    sym (whole_head c.args.field.now c.in-Some.name.now c.in-Some.word.now cut c.in-None.ensures.value)

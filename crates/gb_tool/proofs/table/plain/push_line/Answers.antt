@@ -1,7 +1,6 @@
-use Rattle.std.proofs.Common.{◌≢◌, ◌∙◌, map, ◌<◌, length, get_or, refl, sym, arith, [], ◌++◌, ◌∷◌}
-use Rattle.std.proofs.lemmas.List.{length-map, map-set, get_or-map, get_or-set_other, length-set}
+use Rattle.std.proofs.Common.{◌≢◌, ◌∙◌, ◌<◌, length, get_or, refl, sym, arith, [], ◌++◌, ◌∷◌}
+use Rattle.std.proofs.lemmas.List.{get_or_default, get_or-set_other, length-set}
 use Rattle.std.proofs.lemmas.Str.{IsUtf8-from_ascii}
-use Rattle.gb_series.specs.Series.{value_of}
 use Rattle.gb_tool.proofs.PlainLemmas.{cell_ascii, rest_ascii}
 use Rattle.gb_tool.proofs.PushLemmas.{passing_none, passing_more, passing_all}
 use Rattle.gb_tool.proofs.table.plain.push_line.Goals as goal
@@ -10,13 +9,13 @@ pub loop-column-init : goal.loop-column-init
 loop-column-init c = record {
   done = [];
   read = refl;
-  passing = passing_none c.args.null_word.now (map value_of c.args.columns.now);
-  room = λ k d low lt. c.requires.room k d lt;
+  passing = passing_none c.args.null_word.now c.args.columns.now;
+  roomy = λ k d low lt. c.requires.room k d lt;
   is_ascii = c.requires.ascii;
 }
 
 pub push_cell-requires-clause-room : goal.push_cell-requires-clause-room
-push_cell-requires-clause-room c = c.loop-column.invariant.room c.loop-column.column-index c.column-item.result (omega arith) (omega arith)
+push_cell-requires-clause-room c = c.loop-column.invariant.roomy c.loop-column.column-index c.column-item.result (omega arith) (omega arith)
 
 pub push_cell-requires-clause-is_text : goal.push_cell-requires-clause-is_text
 push_cell-requires-clause-is_text c = λ ascii.
@@ -27,20 +26,18 @@ loop-column-preserved c =
     let s = c.loop-column.invariant in
     let now = c.loop-column.columns in
     let column = get_or now c.loop-column.column-index c.column-item.result in
-    let within : c.loop-column.column-index < length now = omega arith in
-    let lt : c.loop-column.column-index < length (map value_of now) = omega (arith, length-map now value_of, within) in
-    let at = sym (get_or-map value_of now c.loop-column.column-index c.column-item.result (value_of column) within) in
+    let lt : c.loop-column.column-index < length now = omega arith in
     let good = rw c.if-not-branch.false at c.in_ok-push_cell.ensures.ok in
     let read = rw c.if-ended.false at s.read in
     record {
       done = s.done ++ c.in-Some.cell.now ∷ [];
       read = read ∙ c.in-Some.ensures.reads s.done;
-      passing = rw (map-set value_of now c.loop-column.column-index c.push_cell.new.self) (passing_more c.args.null_word.now (map value_of c.args.columns.now) s.done
-          c.loop-column.column-index (map value_of now) s.passing (value_of column) c.in-Some.cell.now lt at (value_of c.push_cell.new.self) (sym good));
-      room = λ k d low high.
+      passing = passing_more c.args.null_word.now c.args.columns.now s.done
+          c.loop-column.column-index now s.passing column c.in-Some.cell.now lt (get_or_default now c.loop-column.column-index c.column-item.result column lt) c.push_cell.new.self (sym good);
+      roomy = λ k d low high.
           let other : k ≢ c.loop-column.column-index = omega (arith, low) in
           let below : k < length now = omega (arith, high, length-set now c.loop-column.column-index c.push_cell.new.self) in
-          rw (get_or-set_other now c.loop-column.column-index k c.push_cell.new.self d other) (s.room k d (omega (arith, low)) below);
+          rw (get_or-set_other now c.loop-column.column-index k c.push_cell.new.self d other) (s.roomy k d (omega (arith, low)) below);
       is_ascii = λ ascii. rest_ascii c.loop-column.left.now c.in-Some.cell.now c.in-Some.rest.now c.in-Some.last c.in-Some.ensures (s.is_ascii ascii);
     }
 
@@ -50,8 +47,8 @@ returns-clause-ok c =
     record {
       fields = s.done;
       reads = rw c.if-not-ended.false at s.read;
-      takes = λ row. passing_all c.args.null_word.now (map value_of c.args.columns.now) s.done c.loop-column.column-index (map value_of c.loop-column.columns) s.passing row
-          (omega (arith, length-map c.loop-column.columns value_of)) (omega (arith, length-map c.loop-column.columns value_of));
+      takes = λ row. passing_all c.args.null_word.now c.args.columns.now s.done c.loop-column.column-index c.loop-column.columns s.passing row
+          (omega arith) (omega arith);
     }
 
 pub returns-clause-ascii : goal.returns-clause-ascii

@@ -3,7 +3,7 @@ use Rattle.std.specs.List.{All}
 use Rattle.gb_defs.specs.Fault.{sums_flat}
 use Rattle.gb_defs.specs.Groups.{AreMembers, lists_in}
 use Rattle.gb_groups.specs.GroupsType.{groups_of}
-use Rattle.gb_cols.specs.PlSmallStr.{name_of}
+use Rattle.gb_base.specs.PlSmallStr.{name_of}
 use Rattle.gb_tool.proofs.FoldingLemmas.{logical_sums}
 use Rattle.gb_tool.proofs.folds.group_sums.LogicalGroupSums.group_sums.Goals as goal
 
@@ -22,5 +22,5 @@ returns-clause-ok g c =
     let has : sums_flat t ≡ true = sym c.has_sum.ensures ∙ c.if-not-has_sum.false in
     let lists = lists_in (groups_of c.args.groups.now) in
     ap (λ v. Some v) c.with_kind.ensures
-    ∙ logical_sums stored t (g.met.K.LogicalKind.sums kind has) (name_of c.args.name) c.args.self.now c.physical.result.now c.in_ok-sums.sums lists has c.kind-kind.ensures
+    ∙ logical_sums stored t (g.met.K.LogicalKind.sums kind has) (name_of c.args.name) c.args.self.now c.physical.result.now c.in_ok-sums.sums lists has c.kind-kind.ensures.kind
     (ap (λ v. v.slots) c.physical.ensures.column) c.physical.ensures.typed c.in_ok-sums.ensures.ok

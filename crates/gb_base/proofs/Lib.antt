@@ -1,0 +1,3 @@
+pub mod AnyValueLemmas
+pub mod DataTypeLemmas
+pub mod TextLemmas

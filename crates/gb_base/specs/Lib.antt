@@ -1,0 +1,14 @@
+pub mod AnyValue
+pub mod ByteStr
+pub mod DataType
+pub mod Device
+pub mod ErrorText
+pub mod FitsPool
+pub mod Memory
+pub mod NullableIdx
+pub mod PlSmallStr
+pub mod PolarsError
+pub mod Pool
+pub mod Scalar
+pub mod Sorted
+pub mod Standard

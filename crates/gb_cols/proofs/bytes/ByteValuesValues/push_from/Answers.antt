@@ -1,4 +1,0 @@
-use Rattle.gb_cols.proofs.bytes.ByteValuesValues.push_from.Goals as goal
-
-pub push_bytes-requires : goal.push_bytes-requires
-push_bytes-requires g c = c.bytes_at.ensures.fits

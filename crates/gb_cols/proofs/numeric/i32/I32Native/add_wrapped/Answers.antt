@@ -1,6 +1,0 @@
-use Rattle.std.proofs.Common.{w32}
-use Rattle.std.proofs.lemmas.Int.{wrapping_add_is}
-use Rattle.gb_cols.proofs.numeric.i32.I32Native.add_wrapped.Goals as goal
-
-pub returns : goal.returns
-returns c = wrapping_add_is w32 c.args.self c.args.other c.ranges.self c.ranges.other

@@ -1,0 +1,4 @@
+pub mod CategoryLemmas
+pub mod CodingLemmas
+pub mod LogicalLemmas
+pub mod MarkLemmas

@@ -1,0 +1,2 @@
+pub mod Categorical
+pub mod Logical

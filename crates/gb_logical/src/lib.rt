@@ -1,0 +1,10 @@
+//! Columns over other columns: numbers that mean something else, as dates and decimals, and codes that stand
+//! for texts.
+#![tactic(auto)]
+
+pub mod categorical;
+pub mod logical;
+#[cfg(test)]
+mod order_tests;
+#[cfg(test)]
+mod slice_tests;

@@ -1,0 +1,4 @@
+pub mod DecimalLemmas
+pub mod DecimalTextLemmas
+pub mod DigitLemmas
+pub mod HexLemmas

@@ -1,0 +1,6 @@
+use Rattle.std.proofs.Common.{w64}
+use Rattle.std.proofs.lemmas.Int.{wrapping_add_is}
+use Rattle.gb_numbers.proofs.numeric.i64.I64Native.add_wrapped.Goals as goal
+
+pub returns : goal.returns
+returns c = wrapping_add_is w64 c.args.self c.args.other c.ranges.self c.ranges.other

@@ -1,0 +1,73 @@
+//! Numbers of 32 bits with a sign.
+
+use super::{Native, PolarsNumericType};
+use crate::number_cell::signed_number;
+use gb_base::data_type::DataType;
+
+/// The type of columns of `i32`.
+pub struct Int32Type;
+
+impl PolarsNumericType for Int32Type {
+    type Native = i32;
+
+    fn data_type() -> DataType {
+        DataType::Int32
+    }
+}
+
+impl Native for i32 {
+    ghost use Rattle.std.specs.Prelude.{refl};
+    ghost use Rattle.std.specs.Int.{w32};
+    ghost use Rattle.std.proofs.Common.{inl};
+    ghost use Rattle.std.proofs.lemmas.Bool.Decides.{Decides-int_eq};
+    ghost use Rattle.gb_defs.specs.ColumnType.{Signed};
+
+    ghost number = { λ n. n };
+
+    ghost width = { w32 };
+
+    ghost flat = { Signed w32 };
+
+    ghost whole = { inl refl };
+
+    ghost equal_by_number = { Decides-int_eq };
+
+    ghost ordered_by_number = { λ a b. refl };
+
+    ghost printed = { λ n. refl };
+
+    fn zero() -> i32 {
+        0
+    }
+
+    #[inline]
+    fn add_wrapped(self, other: i32) -> i32 {
+        self.wrapping_add(other)
+    }
+
+    #[inline]
+    fn is_wide() -> bool {
+        false
+    }
+
+    #[inline]
+    fn to_word(self) -> u64 {
+        i64::from(self).cast_unsigned()
+    }
+
+    #[inline]
+    fn to_wide(self) -> u128 {
+        i128::from(self).cast_unsigned()
+    }
+
+    #[inline(always)]
+    fn from_cell(cell: &[u8]) -> Option<i32> {
+        i32::try_from(signed_number(cell)?).ok()
+    }
+
+    #[inline]
+    fn value_fits(self) {}
+
+    #[inline]
+    fn values_are_few(_values: &[i32]) {}
+}

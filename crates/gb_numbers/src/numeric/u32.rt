@@ -1,0 +1,73 @@
+//! Numbers of 32 bits with no sign.
+
+use super::{Native, PolarsNumericType};
+use crate::number_cell::unsigned_number;
+use gb_base::data_type::DataType;
+
+/// The type of columns of `u32`.
+pub struct UInt32Type;
+
+impl PolarsNumericType for UInt32Type {
+    type Native = u32;
+
+    fn data_type() -> DataType {
+        DataType::UInt32
+    }
+}
+
+impl Native for u32 {
+    ghost use Rattle.std.specs.Prelude.{pos, refl};
+    ghost use Rattle.std.specs.Int.{w32};
+    ghost use Rattle.std.proofs.Common.{inr};
+    ghost use Rattle.gb_defs.specs.ColumnType.{Unsigned};
+    ghost use Rattle.gb_numbers.specs.Native.{Decides-pos, cmp-pos};
+
+    ghost number = { λ n. pos n };
+
+    ghost width = { w32 };
+
+    ghost flat = { Unsigned w32 };
+
+    ghost whole = { inr refl };
+
+    ghost equal_by_number = { Decides-pos };
+
+    ghost ordered_by_number = { cmp-pos };
+
+    ghost printed = { λ n. refl };
+
+    fn zero() -> u32 {
+        0
+    }
+
+    #[inline]
+    fn add_wrapped(self, other: u32) -> u32 {
+        self.wrapping_add(other)
+    }
+
+    #[inline]
+    fn is_wide() -> bool {
+        false
+    }
+
+    #[inline]
+    fn to_word(self) -> u64 {
+        u64::from(self)
+    }
+
+    #[inline]
+    fn to_wide(self) -> u128 {
+        u128::from(self)
+    }
+
+    #[inline(always)]
+    fn from_cell(cell: &[u8]) -> Option<u32> {
+        u32::try_from(unsigned_number(cell)?).ok()
+    }
+
+    #[inline]
+    fn value_fits(self) {}
+
+    #[inline]
+    fn values_are_few(_values: &[u32]) {}
+}

@@ -1,0 +1,26 @@
+use Rattle.std.proofs.Common.{◌<◌, [], map, length, ◌∙◌, ap, arith, sym}
+use Rattle.std.proofs.lemmas.List.{length-map}
+use Rattle.gb_defs.specs.Slot.{Bytes, slot_at}
+use Rattle.gb_values.proofs.FlagLemmas.{flagged_length, null_at, valid_at}
+use Rattle.gb_values.proofs.ValueLemmas.{value_at}
+use Rattle.gb_values.proofs.utf8.NullableArray+ByteValues+Text.get.Goals as goal
+
+pub get-requires : goal.get-requires
+get-requires c =
+    let values = c.self.inside.values in
+    let slots = map (λ v. Bytes v) values in
+    omega (arith, ap length c.self.view_is, flagged_length slots c.self.inside.validity.flags.items, length-map values (λ v. Bytes v), c.requires)
+
+pub returns-then-is_valid : goal.returns-then-is_valid
+returns-then-is_valid c =
+    let values = c.self.inside.values in
+    let slots = map (λ v. Bytes v) values in
+    let flags = c.self.inside.validity.flags.items in
+    let lt : c.args.i < length values = omega (arith, ap length c.self.view_is, flagged_length slots flags, length-map values (λ v. Bytes v), c.requires) in
+    ap (λ v. Bytes v) c.get.ensures ∙ value_at (λ v. Bytes v) values [] c.args.i lt ∙ valid_at slots flags c.args.i (sym c.is_valid.ensures ∙ c.if-is_valid.true) ∙ ap (λ ss. slot_at ss c.args.i) c.self.view_is
+
+pub returns-else-is_valid : goal.returns-else-is_valid
+returns-else-is_valid c =
+    let slots = map (λ v. Bytes v) c.self.inside.values in
+    let flags = c.self.inside.validity.flags.items in
+    null_at slots flags c.args.i (sym c.is_valid.ensures ∙ c.if-is_valid.false) ∙ ap (λ ss. slot_at ss c.args.i) c.self.view_is
