@@ -1,61 +1,98 @@
 //! The text of the answer.
 
-use std::io::{self, BufWriter, Write};
+use std::io::{self, Write};
 
-use crate::cells::Cell;
-use crate::groups::Groups;
+use crate::column_type::ColumnType;
+use crate::groups::{Groups, Key};
+use crate::header::Plan;
+use crate::merge::Merged;
 use crate::request::Request;
+use crate::words::short_text;
+use crate::workers::each;
 
-pub fn write(groups: &Groups, request: &Request, output: impl Write) -> io::Result<()> {
-    let mut output = BufWriter::with_capacity(1 << 16, output);
-    write_header(groups, request, &mut output)?;
-    for (place, key) in groups.keys().iter().enumerate() {
-        write_key(key, request, &mut output)?;
-        for total in groups.totals(place) {
-            write!(output, ",{total}")?;
+/// How many rows a worker spells at a time.
+const BLOCK: usize = 1 << 14;
+
+/// Writes the answer in blocks, of which as many are spelled at once as there are workers.
+pub fn write(
+    merged: &Merged,
+    plan: &Plan,
+    request: &Request,
+    mut output: impl Write,
+) -> io::Result<()> {
+    output.write_all(&header(plan))?;
+    let rows: Vec<_> = merged.in_order().collect();
+    for rows in rows.chunks(BLOCK * request.workers) {
+        let spell = |rows| spelled(rows, plan, request);
+        for text in each(rows.chunks(BLOCK), spell) {
+            output.write_all(&text)?;
         }
-        output.write_all(b"\n")?;
     }
     output.flush()
 }
 
-fn write_header(groups: &Groups, request: &Request, output: &mut impl Write) -> io::Result<()> {
-    write_text(
-        &format!("{}:{}", request.key, groups.key_type().word()),
-        output,
-    )?;
-    for aggregate in &request.aggregates {
-        let field = format!("{}:{}", aggregate.name(), aggregate.method.type_word());
-        output.write_all(b",")?;
-        write_text(&field, output)?;
-    }
-    output.write_all(b"\n")
-}
-
-fn write_key(key: &Cell, request: &Request, output: &mut impl Write) -> io::Result<()> {
-    match key {
-        Cell::Whole(number) => write!(output, "{number}"),
-        Cell::Text(text) => write_text(text, output),
-        Cell::Flag(flag) => write!(output, "{flag}"),
-        Cell::Hundredths(number) => write_hundredths(*number, output),
-        Cell::Null if request.null_word.is_empty() && request.aggregates.is_empty() => {
-            output.write_all(b"\"\"")
+fn header(plan: &Plan) -> Vec<u8> {
+    let mut text = Vec::new();
+    for (number, field) in plan.answer.iter().enumerate() {
+        if number > 0 {
+            text.push(b',');
         }
-        Cell::Null => write_text(&request.null_word, output),
+        write_text(field.as_bytes(), &mut text);
     }
+    text.push(b'\n');
+    text
 }
 
-fn write_hundredths(number: i128, output: &mut impl Write) -> io::Result<()> {
-    let sign = if number < 0 { "-" } else { "" };
-    let size = number.unsigned_abs();
-    write!(output, "{sign}{}.{:02}", size / 100, size % 100)
+fn spelled(rows: &[(&Groups, usize)], plan: &Plan, request: &Request) -> Vec<u8> {
+    let mut text = Vec::new();
+    for &(groups, place) in rows {
+        write_row(groups, place, plan, request, &mut text);
+    }
+    text
+}
+
+fn write_row(groups: &Groups, place: usize, plan: &Plan, request: &Request, text: &mut Vec<u8>) {
+    let begin = text.len();
+    match groups.key(place) {
+        Key::Null => write_text(request.null_word.as_bytes(), text),
+        Key::Short(key) => write_short_key(key, plan, text),
+        Key::Long(key) => write_text(key, text),
+    }
+    if text.len() == begin && plan.folds.is_empty() {
+        // A line of nothing would be passed over.
+        text.extend_from_slice(b"\"\"");
+    }
+    for (aggregate, fold) in plan.folds.iter().enumerate() {
+        text.push(b',');
+        let total = fold.form.wrapped(groups.total(aggregate, place));
+        fold.form.write(total, text);
+    }
+    text.push(b'\n');
+}
+
+fn write_short_key(key: u128, plan: &Plan, text: &mut Vec<u8>) {
+    match plan.key_type {
+        ColumnType::Number(form) => form.write(key as i128, text),
+        ColumnType::Flag => text.extend_from_slice(if key == 1 { b"true" } else { b"false" }),
+        ColumnType::Text | ColumnType::Bytes | ColumnType::Null => {
+            let (bytes, length) = short_text(key);
+            write_text(&bytes[..length], text);
+        }
+    }
 }
 
 /// Writes a field, in quotes where it would be read otherwise without them.
-fn write_text(text: &str, output: &mut impl Write) -> io::Result<()> {
-    if text.contains([',', '"', '\n', '\r']) {
-        write!(output, "\"{}\"", text.replace('"', "\"\""))
-    } else {
-        output.write_all(text.as_bytes())
+fn write_text(field: &[u8], text: &mut Vec<u8>) {
+    let bare = !field.iter().any(|byte| b",\"\n\r".contains(byte));
+    if bare {
+        return text.extend_from_slice(field);
     }
+    text.push(b'"');
+    for &byte in field {
+        if byte == b'"' {
+            text.push(byte);
+        }
+        text.push(byte);
+    }
+    text.push(b'"');
 }

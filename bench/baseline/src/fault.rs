@@ -13,14 +13,6 @@ pub enum Fault {
 }
 
 impl Fault {
-    /// Bytes that are no UTF-8 are a fault of the table, and not of its reading.
-    pub fn of_reading(error: io::Error) -> Fault {
-        match error.kind() {
-            io::ErrorKind::InvalidData => Fault::Table("a text is not UTF-8"),
-            _ => Fault::Read(error),
-        }
-    }
-
     pub fn status(&self) -> u8 {
         match self {
             Fault::Words(_) => 2,

@@ -1,20 +1,27 @@
-//! Groups a typed CSV table by one column, as `gb_tool group` does: plain Rust, one thread, nothing proved.
+//! Groups a typed CSV table by one column, as `gb_tool group` does: plain Rust, nothing proved.
 //!
-//!     baseline group --by NAME [--agg sum:NAME | --agg count:NAME]... [--null WORD] < TABLE
+//!     baseline group --by NAME [--agg sum:NAME | --agg count:NAME]... [--null WORD] [--workers N] < TABLE
 
 mod answer;
-mod cells;
+mod batch;
+mod column_type;
 mod fault;
 mod groups;
-mod hasher;
-mod records;
+mod header;
+mod input;
+mod merge;
+mod numbers;
+mod parts;
+mod reader;
 mod request;
+mod words;
+mod workers;
 
-use std::io::{self, Read};
+use std::io;
 use std::process::ExitCode;
 
 use crate::fault::Fault;
-use crate::groups::Groups;
+use crate::reader::Reader;
 use crate::request::Request;
 
 fn main() -> ExitCode {
@@ -29,11 +36,10 @@ fn main() -> ExitCode {
 
 fn run() -> Result<(), Fault> {
     let request = Request::from_words(std::env::args().skip(1))?;
-    let mut text = String::new();
-    io::stdin()
-        .lock()
-        .read_to_string(&mut text)
-        .map_err(Fault::of_reading)?;
-    let groups = Groups::of_table(&text, &request)?;
-    answer::write(&groups, &request, io::stdout().lock()).map_err(Fault::Write)
+    let input = input::standard_input().map_err(Fault::Read)?;
+    let reader = Reader::new(&input, request.null_word.as_bytes());
+    let (columns, rows) = header::read_header(&reader)?;
+    let plan = header::plan(&columns, &request)?;
+    let merged = parts::group_rows(&reader, rows, &plan, request.workers)?;
+    answer::write(&merged, &plan, &request, io::stdout().lock()).map_err(Fault::Write)
 }

@@ -2,6 +2,9 @@
 
 use crate::fault::Fault;
 
+const MOST_WORKERS: usize = 64;
+const USUAL_WORKERS: usize = 4;
+
 #[derive(Clone, Copy, Debug, PartialEq, Eq)]
 pub enum Method {
     Sum,
@@ -19,6 +22,7 @@ pub struct Request {
     pub key: String,
     pub aggregates: Vec<Aggregate>,
     pub null_word: String,
+    pub workers: usize,
 }
 
 impl Request {
@@ -29,6 +33,7 @@ impl Request {
         let mut key = None;
         let mut aggregates = Vec::new();
         let mut null_word = String::new();
+        let mut workers = USUAL_WORKERS;
         while let Some(option) = words.next() {
             let value = words
                 .next()
@@ -37,6 +42,7 @@ impl Request {
                 "--by" => key = Some(value),
                 "--agg" => aggregates.push(Aggregate::from_word(&value)?),
                 "--null" => null_word = value,
+                "--workers" => workers = workers_of_word(&value)?,
                 _ => return Err(Fault::Words("an option is unknown")),
             }
         }
@@ -45,18 +51,16 @@ impl Request {
             key,
             aggregates,
             null_word,
+            workers,
         })
     }
 }
 
-impl Method {
-    /// The word of the type of what is answered.
-    pub fn type_word(self) -> &'static str {
-        match self {
-            Method::Sum => "i64",
-            Method::Count => "u32",
-        }
-    }
+fn workers_of_word(word: &str) -> Result<usize, Fault> {
+    let workers = word.parse().ok();
+    workers
+        .filter(|workers| (1..=MOST_WORKERS).contains(workers))
+        .ok_or(Fault::Words("there are 1 to 64 workers"))
 }
 
 impl Aggregate {

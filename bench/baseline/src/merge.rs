@@ -1,0 +1,63 @@
+//! The groups of all parts of a table as one.
+
+use crate::groups::Groups;
+use crate::header::Plan;
+use crate::workers::each;
+
+/// All groups, in shares that have no key in common.
+pub struct Merged<'a> {
+    shares: Vec<Share<'a>>,
+}
+
+struct Share<'a> {
+    groups: Groups<'a>,
+    /// The rank of each group, which ascends: how many groups of all parts stand before its first one.
+    ranks: Vec<usize>,
+}
+
+/// Merges the groups of parts of the rows, in the order of the parts, by as many workers.
+pub fn merge<'a>(mut parts: Vec<Groups<'a>>, plan: &Plan) -> Merged<'a> {
+    if parts.len() == 1 {
+        let groups = parts.remove(0);
+        let ranks = (0..groups.count()).collect();
+        return Merged {
+            shares: vec![Share { groups, ranks }],
+        };
+    }
+    let shares = each(0..parts.len(), |number| merge_share(&parts, number, plan));
+    Merged { shares }
+}
+
+fn merge_share<'a>(parts: &[Groups<'a>], number: usize, plan: &Plan) -> Share<'a> {
+    let mut groups = Groups::new(plan);
+    let mut ranks = Vec::new();
+    let mut before = 0;
+    for part in parts {
+        for place in 0..part.count() {
+            if part.share(place, parts.len()) == number
+                && groups.add_group(part, place) == ranks.len()
+            {
+                ranks.push(before + place);
+            }
+        }
+        before += part.count();
+    }
+    Share { groups, ranks }
+}
+
+impl<'a> Merged<'a> {
+    /// All groups in the order of their first rows, each by a share and its place there.
+    pub fn in_order(&self) -> impl Iterator<Item = (&Groups<'a>, usize)> {
+        let mut next = vec![0; self.shares.len()];
+        std::iter::from_fn(move || {
+            let shares = self.shares.iter().zip(&next).enumerate();
+            let ranks = shares.filter_map(|(number, (share, &place))| {
+                share.ranks.get(place).map(|&rank| (rank, number))
+            });
+            let (_, number) = ranks.min()?;
+            let place = next[number];
+            next[number] += 1;
+            Some((&self.shares[number].groups, place))
+        })
+    }
+}
