@@ -7,12 +7,15 @@ import sys
 from collections.abc import Callable
 from dataclasses import dataclass
 
-from tables import COLUMNS, Table
+import clickhouse
+import peers
+from clickhouse import Server
+from tables import Table
 
 FOLDER = os.path.dirname(os.path.abspath(__file__))
 BASELINE = "baseline"
 WORDS = ["group", "--by", "key", "--agg", "sum:amount", "--agg", "count:quantity"]
-KEY, AMOUNT, QUANTITY = (COLUMNS.index(name) + 1 for name in ("key", "amount", "quantity"))
+RUST = ["-C", "opt-level=3", "-C", "lto=fat", "-C", "codegen-units=1", "-C", "panic=abort"]
 
 
 @dataclass(frozen=True)
@@ -21,9 +24,12 @@ class Program:
 
     name: str
     command: Callable[[Table], list[str]]
+    threads: int = 1
     own: bool = False
     header: bool = True
     marked: bool = False
+    quotes: bool = True
+    server: Server | None = None
 
 
 def build_baseline(folder):
@@ -36,58 +42,62 @@ def build_baseline(folder):
         return os.path.join(folder, "release", "baseline")
     program = os.path.join(folder, "baseline")
     main = os.path.join(source, "src", "main.rs")
-    subprocess.run(["rustc", "--edition", "2021", "-C", "opt-level=3", "-o", program, main], check=True)
+    subprocess.run(["rustc", "--edition", "2021", *RUST, "-o", program, main], check=True)
     return program
 
 
+def own_program(name, path, threads):
+    command = [path, *WORDS, "--workers", str(threads)]
+    return Program(with_threads(name, threads), lambda table: command, threads, own=True)
+
+
 def own_programs(tool, baseline, workers):
-    """The plain program, and gb_tool at each number of workers if there is one."""
-    programs = [Program(BASELINE, lambda table: [baseline, *WORDS], own=True)]
-    for number in workers if tool else []:
-        command = [tool, *WORDS, "--workers", str(number)]
-        programs.append(Program(f"gb_tool -w{number}", lambda table, command=command: command, own=True))
-    return programs
+    """The plain program, and gb_tool if there is one, at each number of workers."""
+    paths = {BASELINE: baseline, "gb_tool": tool}
+    return [own_program(name, path, threads) for name, path in paths.items() if path for threads in workers]
 
 
-def mawk(table):
-    row = f"NR > 1 {{ sums[${KEY}] += ${AMOUNT}; counts[${KEY}]++ }}"
-    end = 'END { for (key in sums) printf "%s,%d,%d\\n", key, sums[key], counts[key] }'
-    return ["mawk", "-F,", f"{row} {end}"]
+def with_threads(name, threads):
+    return f"{name} -w{threads}"
 
 
-def datamash(table):
-    sort = [] if table.case.in_order else ["--sort"]
-    group = ["--group", str(KEY), "sum", str(AMOUNT), "count", str(QUANTITY)]
-    return ["datamash", "--field-separator=,", "--header-in", "--narm", *sort, *group]
+PLAIN = {
+    "mawk": Program("mawk", lambda table: peers.awk("mawk"), header=False, quotes=False),
+    "gawk": Program("gawk", lambda table: peers.awk("gawk"), header=False, quotes=False),
+    "datamash": Program("datamash", peers.datamash, header=False, marked=True, quotes=False),
+    "mlr": Program("mlr", peers.mlr),
+    "sqlite3": Program("sqlite3", peers.sqlite3, header=False),
+    "pandas": Program("pandas", peers.pandas),
+}
+THREADED = {
+    "data.table": peers.data_table,
+    "collapse": peers.collapse,
+    "clickhouse": clickhouse.local_command,
+}
+PEERS = [*PLAIN, *THREADED]
 
 
-def mlr(table):
-    key = f"key:{table.case.key_type}"
-    stats = ["stats1", "-a", "sum,count", "-f", "amount:i64,quantity:i64", "-g", key]
-    cut = ["cut", "-o", "-f", f"{key},amount:i64_sum,quantity:i64_count"]
-    return ["mlr", "--icsv", "--ocsv", *stats, "then", *cut]
+def installed_peers(names, workers, folder, stack):
+    """The other programs that are asked for and installed, those with threads at the least and the most workers.
 
-
-def sqlite3(table):
-    types = {"key": "integer" if table.case.key_type in ("i64", "date") else "text", "day": "text", "city": "text"}
-    columns = ", ".join(f"{name} {types.get(name, 'integer')}" for name in COLUMNS)
-    query = "select key, coalesce(sum(nullif(amount, '')), 0), count(*) from sales group by key"
-    load = [f"create table sales({columns})", f".import --csv --skip 1 '{table.path}' sales"]
-    return ["sqlite3", "-batch", ":memory:", *load, ".mode csv", query]
-
-
-PEERS = [
-    Program("mawk", mawk, header=False),
-    Program("datamash", datamash, header=False, marked=True),
-    Program("mlr", mlr),
-    Program("sqlite3", sqlite3, header=False),
-]
-
-
-def installed_peers(names):
-    """The other programs that are asked for and installed."""
-    wanted = [peer for peer in PEERS if peer.name in names]
-    missing = [peer.name for peer in wanted if not shutil.which(peer.name)]
+    A server among them reads the tables of the folder, and is stopped with the stack.
+    """
+    missing = [name for name in names if not peers.is_installed(name)]
     if missing:
         print(f"not installed: {', '.join(missing)}", file=sys.stderr)
-    return [peer for peer in wanted if peer.name not in missing]
+    found = []
+    for name in names:
+        if name in missing:
+            continue
+        if name in PLAIN:
+            found.append(PLAIN[name])
+        else:
+            needs_server = name == "clickhouse" and not clickhouse.local()
+            server = stack.enter_context(Server(folder)) if needs_server else None
+            found += [threaded(name, threads, server) for threads in sorted({min(workers), max(workers)})]
+    return found
+
+
+def threaded(name, threads, server):
+    words = server.command if server else THREADED[name]
+    return Program(with_threads(name, threads), lambda table: words(table, threads), threads, server=server)

@@ -4,7 +4,8 @@ import os
 import platform
 import subprocess
 
-from programs import BASELINE
+from peers import version
+from programs import BASELINE, PEERS, with_threads
 
 BEGIN = "<!-- bench: begin -->"
 END = "<!-- bench: end -->"
@@ -23,13 +24,14 @@ def markdown_table(head, rows, text_columns):
 
 
 def seconds_cell(result, name):
-    """The median of a program, and how many times that of the plain program it is."""
+    """The median of a program, and how many times that of the plain program with as many threads it is."""
     if name not in result.measured:
         return "-"
-    median = result.measured[name].median
-    if name == BASELINE or BASELINE not in result.measured:
-        return f"{median:.3f}"
-    return f"{median:.3f} ({median / result.measured[BASELINE].median:.2f})"
+    measured = result.measured[name]
+    same = result.measured.get(with_threads(BASELINE, measured.threads))
+    if same is None or same is measured:
+        return f"{measured.median:.3f}"
+    return f"{measured.median:.3f} ({measured.median / same.median:.2f})"
 
 
 def peak_cell(result, name):
@@ -57,26 +59,10 @@ def processor():
         return platform.machine()
 
 
-def version(command):
-    """The first line in which a program tells its version."""
-    done = subprocess.run(command, capture_output=True, text=True, stdin=subprocess.DEVNULL)
-    lines = (done.stdout + done.stderr).splitlines()
-    return lines[0].strip() if lines else "of unknown version"
-
-
 def versions(results):
-    commands = {
-        "mawk": ["mawk", "-W", "version"],
-        "datamash": ["datamash", "--version"],
-        "mlr": ["mlr", "--version"],
-        "sqlite3": ["sqlite3", "--version"],
-    }
-    told = [version(["rustc", "--version"]).split(" (")[0]]
-    for name in names_of(results):
-        if name in commands:
-            words = version(commands[name]).split()
-            told.append(f"{name} {next(word for word in words if word[0].isdigit())}")
-    return ", ".join(told)
+    names = dict.fromkeys(name.split(" -w")[0] for name in names_of(results))
+    told = [" ".join(subprocess.run(["rustc", "--version"], capture_output=True, text=True).stdout.split()[:2])]
+    return ", ".join(told + [f"{name} {version(name)}" for name in names if name in PEERS])
 
 
 def report(results, rounds, patience):
@@ -85,7 +71,7 @@ def report(results, rounds, patience):
     where = f"{os.cpu_count()} processors ({processor()})"
     parts = [
         f"Medians of {times} on {where}; {versions(results)}. A peer that took over {patience:g} s was run once.",
-        "Seconds, and in brackets how many times those of `baseline`:",
+        "Seconds, and in brackets how many times those of `baseline` with as many threads:",
         figures(results, seconds_cell),
         "Peak memory in MB:",
         figures(results, peak_cell),

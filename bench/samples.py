@@ -15,6 +15,7 @@ from tables import NULL_MARK, Table
 class Measured:
     """What the runs of one program on one table took."""
 
+    threads: int
     seconds: list[float] = field(default_factory=list)
     peak: int = 0
     groups: int = 0
@@ -49,13 +50,16 @@ def run_once(program, table, answer):
     source = table.marked_path if program.marked else table.path
     launch = [sys.executable, "-I", "-S", os.path.join(FOLDER, "launch.py"), source, answer]
     environment = dict(os.environ, LC_ALL="C")
+    if program.server:
+        program.server.forget_peak()
     done = subprocess.run([*launch, *program.command(table)], env=environment, stdout=subprocess.PIPE, text=True)
     if done.returncode != 0:
         raise Fault("could not be started")
     status, seconds, peak = done.stdout.split()
     if status != "0":
         raise Fault(f"failed with status {status}")
-    return float(seconds), int(peak)
+    peak = int(peak) if program.server is None else max(int(peak), program.server.peak())
+    return float(seconds), peak
 
 
 def normal_rows(program, text):
@@ -95,9 +99,11 @@ def disagreement(program, measured, baseline):
 
 
 def measure(table, size, programs: list[Program], rounds, patience, folder):
-    """Runs all programs round by round. A peer that takes longer than the patience is run once."""
+    """Runs all programs round by round. A peer that takes longer than the patience is run once, and one that
+    knows no quotes not at all where there are some."""
+    programs = [program for program in programs if program.quotes or not table.case.quotes]
     answer = os.path.join(folder, "answer")
-    result = Result(table, size, {program.name: Measured() for program in programs})
+    result = Result(table, size, {program.name: Measured(program.threads) for program in programs})
     for number in range(rounds):
         turn = number % len(programs)
         for program in programs[turn:] + programs[:turn]:
@@ -119,8 +125,9 @@ def leave_out(result, program, why):
 
 
 def compare(result, programs):
-    """Leaves out the programs whose answers are not those of the plain program."""
-    baseline = result.measured.get(BASELINE)
+    """Leaves out the programs whose answers are not those of the plain program with the first number of workers."""
+    measured = (result.measured.get(program.name) for program in programs if program.name.startswith(BASELINE))
+    baseline = next(filter(None, measured), None)
     for program in programs:
         measured = result.measured.get(program.name)
         why = measured and baseline and disagreement(program, measured, baseline)

@@ -9,12 +9,16 @@ LARGEST_INPUT = 268_435_456
 CHUNK = 50_000
 FEW_GROUPS = 100
 ROWS_PER_GROUP = 10
-HEADER = "sale:i64,day:str,key:{key_type},city:str,amount:i64,quantity:i64\n"
+HEADER = "sale:i64,day:str,key:{key_type},city:str,amount:i64,quantity:i64"
 COLUMNS = ["sale", "day", "key", "city", "amount", "quantity"]
+KEY, AMOUNT, QUANTITY = (COLUMNS.index(name) + 1 for name in ("key", "amount", "quantity"))
+WHOLE = ("i64", "date")
 NULL_MARK = "NA"
+IN_EACH, IN_LAST = "each", "last"
 
 DAYS = [f"2024-{month:02d}-{day:02d}" for month in range(1, 13) for day in range(1, 29)]
 CITIES = ["Aarhus", "Bern", "Gdańsk", "Köln", "León", "Lyon", "Oulu", "Porto", "Riga", "Turin", "Utrecht", "Zadar"]
+QUOTED_CITIES = [f'"{city}, centre"' for city in CITIES]
 AMOUNTS = [str(amount) for amount in range(-20_000, 80_000)] + [""] * 3_000
 QUANTITIES = [str(quantity) for quantity in range(1, 25)]
 
@@ -31,13 +35,25 @@ SPELLINGS = {
 
 @dataclass(frozen=True)
 class Case:
-    """A kind of table. Its `many` groups are one for each ten rows."""
+    """A kind of table. Its `many` groups are one for each ten rows; quoted fields stand in each row, or in the
+    last one, or in none."""
 
     name: str
     title: str
     key_type: str
     many: bool
     in_order: bool = False
+    quotes: str = ""
+    line_end: str = "\n"
+
+    @property
+    def cities(self):
+        return QUOTED_CITIES if self.quotes == IN_EACH else CITIES
+
+    @property
+    def last_rows(self):
+        """A row with a quoted field, where only the last has one."""
+        return [f"0,{DAYS[0]},{self.spell(0)},{QUOTED_CITIES[0]},1,1"] if self.quotes == IN_LAST else []
 
     def groups(self, rows):
         return rows // ROWS_PER_GROUP if self.many else FEW_GROUPS
@@ -57,6 +73,9 @@ CASES = [
     Case("dates", "dates, many groups", "date", many=True),
     Case("flags", "booleans", "bool", many=False),
     Case("categories", "categories, few groups", "cat", many=False),
+    Case("quoted", "texts, a quote in each row", "str", many=False, quotes=IN_EACH),
+    Case("quoted-last", "texts, a quote in the last row", "str", many=False, quotes=IN_LAST),
+    Case("two-byte-ends", "texts, lines end in \\r\\n", "str", many=False, line_end="\r\n"),
 ]
 
 
@@ -69,6 +88,10 @@ class Table:
     size: int
     path: str
     marked_path: str
+
+    @property
+    def header(self):
+        return HEADER.format(key_type=self.case.key_type)
 
 
 def drawn_keys(case, draw, rows):
@@ -89,6 +112,10 @@ def ascending_keys(case, draw, rows):
             yield case.spell(number)
 
 
+def lines(case, rows):
+    return "".join(f"{row}{case.line_end}" for row in rows)
+
+
 def chunks(case, rows):
     """The rows of a table as texts of up to CHUNK rows."""
     draw = random.Random(f"{case.name} {rows}")
@@ -99,11 +126,11 @@ def chunks(case, rows):
             map(str, range(begin + 1, begin + count + 1)),
             draw.choices(DAYS, k=count),
             itertools.islice(keys, count),
-            draw.choices(CITIES, k=count),
+            draw.choices(case.cities, k=count),
             draw.choices(AMOUNTS, k=count),
             draw.choices(QUANTITIES, k=count),
         )
-        yield "\n".join(map(",".join, fields)) + "\n"
+        yield lines(case, map(",".join, fields))
 
 
 def most_rows(case):
@@ -112,20 +139,30 @@ def most_rows(case):
     return LARGEST_INPUT * CHUNK // len(sample)
 
 
+def row_chunks(case, rows, room):
+    """The rows of a table as bytes, up to so many."""
+    last = lines(case, case.last_rows).encode()
+    room -= len(last)
+    for text in chunks(case, rows - len(case.last_rows)):
+        data = text.encode()
+        if len(data) > room:
+            data = data[: data.rfind(b"\n", 0, room) + 1]
+        room -= len(data)
+        yield data
+    yield last
+
+
 def make_table(case, size, folder):
     """Writes the table of so many rows, or of as many as the largest input has, where the size is "max"."""
     rows = most_rows(case) if size == "max" else int(size)
     path = os.path.join(folder, f"{case.name}-{size}.csv")
     marked_path = os.path.join(folder, f"{case.name}-{size}-marked.csv")
-    written = HEADER.format(key_type=case.key_type).encode()
-    length, made = len(written), 0
+    header = lines(case, [HEADER.format(key_type=case.key_type)]).encode()
+    length, made = len(header), 0
     with open(path, "wb") as plain, open(marked_path, "wb") as marked:
-        plain.write(written)
-        marked.write(written)
-        for text in chunks(case, rows):
-            data = text.encode()
-            if length + len(data) > LARGEST_INPUT:
-                data = data[: data.rfind(b"\n", 0, LARGEST_INPUT - length) + 1]
+        plain.write(header)
+        marked.write(header)
+        for data in row_chunks(case, rows, LARGEST_INPUT - length):
             length += plain.write(data)
             made += data.count(b"\n")
             # Columns that hold nulls stand between columns that hold none.
