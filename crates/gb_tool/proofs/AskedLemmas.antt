@@ -1,11 +1,11 @@
 -- A frame cut to the columns that are asked for: it is a frame, and groups by those columns as the whole does.
-use Rattle.std.proofs.Common.{◌≡◌, ◌≢◌, ◌==◌, ℕ, Bool, true, false, cond, inl, inr, List, [], ◌∷◌, ◌++◌, append_assoc, length, map, refl, sym, ◌∙◌, ap, subst, Option, Some, None, Result, Ok, Err}
+use Rattle.std.proofs.Common.{◌≡◌, ◌≢◌, ◌==◌, ℕ, Bool, true, false, cond, inl, inr, List, [], ◌∷◌, ◌++◌, append_assoc, length, map, refl, sym, ◌∙◌, ap, Option, Some, None, Result, Ok, Err}
 use Rattle.std.specs.List.{list_all, list_any}
 use Rattle.std.specs.Str.{bytes_eq}
 use Rattle.std.specs.Cmp.Lexicographic.{bytes_decides}
 use Rattle.std.proofs.lemmas.Bool.{and_parts, cases_Bool, eqb-true, eq-eqb}
-use Rattle.gb_defs.specs.Answer.{aggregated, agree_of, answer, height_of, kept_rows}
-use Rattle.gb_defs.specs.Classes.{class, firsts, rows_below}
+use Rattle.gb_defs.specs.Answer.{aggregated, agree_of, answer, height_of}
+use Rattle.gb_defs.specs.Classes.{class, rows_below}
 use Rattle.gb_defs.specs.Column.{ColumnValue, Frame, IsFrame, all_have_length, find_column, frame_height, names_of, repeated_after}
 use Rattle.gb_defs.specs.Fault.{Fault, fault, missing_fault, unfit_fault}
 use Rattle.gb_defs.specs.Fold.{Method}

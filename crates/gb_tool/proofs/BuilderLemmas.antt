@@ -1,18 +1,20 @@
 -- A column while its cells are read: one cell more.
 use Rattle.std.proofs.Common.{◌≡◌, ℕ, ◌+◌, Bool, true, false, List, [], ◌∷◌, refl, sym, ◌∙◌, ap, Option, Some, None, option_map, replicate}
 use Rattle.std.specs.Prelude.{is_some}
-use Rattle.std.proofs.lemmas.List.{replicate-append-replicate}
+use Rattle.std.proofs.lemmas.List.{length-map, replicate-append-replicate}
 use Rattle.std.specs.Bool.{OnFalse}
 use Rattle.gb_defs.specs.Cell.{cell_slot}
-use Rattle.gb_defs.specs.Column.{ColumnValue, fresh_column}
+use Rattle.gb_defs.specs.Column.{ColumnValue, fresh_column, rechunked}
+use Rattle.gb_defs.specs.Table.{category_column, coded_slot, texts_in}
 use Rattle.gb_defs.specs.ColumnType.{CategoricalOrdering, Categorical, Flat, text}
 use Rattle.gb_defs.specs.Slot.{Slot, Nil}
 use Rattle.gb_numbers.specs.Taken.{if_taken}
-use Rattle.gb_cols.specs.Column.{TakesCell, column_with, pushed}
+use Rattle.gb_cols.specs.Column.{TakesCell, pushed}
 use Rattle.gb_logical.specs.Logical.{typed_as}
 use Rattle.gb_tool.specs.Builder.{built, slots_in}
 use Rattle.gb_tool.specs.Building as building
-use Rattle.gb_tool.specs.Building.{Building, building_with, taken}
+use Rattle.gb_tool.specs.Building.{Building, building_with, in_one_chunk, taken}
+use Rattle.gb_tool.specs.Part.{joined_to}
 use Rattle.gb_tool.specs.declared.table.builder.Cells.{Cells}
 use Rattle.gb_tool.proofs.PushLemmas.{pushed_fresh}
 
@@ -48,6 +50,10 @@ module _ (ordering : CategoricalOrdering) where
       let reads : cell_slot null_word old.dtype cell ≡ cell_slot null_word (Flat (Categorical None ordering)) cell = ap (λ t. cell_slot null_word t cell) typed ∙ read_alike null_word cell in
       as_taken took new ∙ ap (option_map as_categories) takes ∙ as_pushed old (cell_slot null_word old.dtype cell) ∙ ap (option_map (pushed (as_categories old))) reads
 
+-- categories are read into one chunk
+pub categories_rechunked : (name : List ℕ) (ordering : CategoricalOrdering) (slots : List Slot) → rechunked (category_column name ordering slots) ≡ category_column name ordering slots
+categories_rechunked name ordering slots = ap (λ n. record (category_column name ordering slots) { chunks = n ∷ [] }) (length-map slots (coded_slot (texts_in slots)))
+
 -- ---- cells that are kept
 
 abbrev kept_in : ColumnValue → Building
@@ -74,7 +80,7 @@ none_taken b (Some slot) e = cc
 pub cell_refused : (null_word cell : List ℕ) (b : Building) → false ≡ is_some (cell_slot null_word b.column.dtype cell) → None ≡ building_with null_word b cell
 cell_refused null_word cell b e = none_taken b (cell_slot null_word b.column.dtype cell) e
 
-abbrev checked_in : ColumnValue → ℕ → Building
+abbrev pub checked_in : ColumnValue → ℕ → Building
 checked_in c count = record { keeps = false; column = fresh_column c.name c.dtype (replicate count Nil) }
 
 one_checked : (c : ColumnValue) (count : ℕ) (o : Option Slot) → true ≡ is_some o → Some (checked_in c (count + 1)) ≡ option_map (taken (checked_in c count)) o
@@ -86,3 +92,8 @@ one_checked c count (Some slot) e =
 pub cell_checked : (null_word cell : List ℕ) (cells : Cells) (count : ℕ) → true ≡ is_some (cell_slot null_word (slots_in cells).dtype cell)
     → Some (built cells (Some (count + 1))) ≡ building_with null_word (built cells (Some count)) cell
 cell_checked null_word cell cells count e = one_checked (slots_in cells) count (cell_slot null_word (slots_in cells).dtype cell) e
+
+-- columns whose cells were checked, joined
+pub checked_joined : (c d : ColumnValue) (count more : ℕ) → in_one_chunk (checked_in c (count + more)) ≡ in_one_chunk (joined_to (checked_in c count) (checked_in d more))
+checked_joined c d count more =
+    ap (λ slots. record { keeps = false; column = fresh_column c.name c.dtype slots }) (sym (replicate-append-replicate count more Nil))

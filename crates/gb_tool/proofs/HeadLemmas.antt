@@ -1,7 +1,6 @@
 -- The words of types in a header, and the colon before them.
-use Rattle.std.proofs.Common.{◌≡◌, ◌≢◌, ◌==◌, ℕ, ◌+◌, ◌-◌, ◌<◌, ◌≤◌, zero, suc, Bool, true, false, not, ◌||◌, inl, inr, List, [], ◌∷◌, length, get_or, take, drop, refl, sym, ◌∙◌, ap, arith, map, option_map, Option, Some, None, codes}
+use Rattle.std.proofs.Common.{◌≡◌, ◌≢◌, ◌==◌, ℕ, ◌+◌, ◌-◌, ◌<◌, ◌≤◌, zero, suc, true, false, not, inl, inr, List, [], ◌∷◌, length, get_or, take, drop, refl, sym, ◌∙◌, ap, arith, map, option_map, Option, Some, None}
 use Rattle.std.specs.Fmt.{digits}
-use Rattle.std.specs.Prelude.{if◌then◌else◌}
 use Rattle.std.proofs.lemmas.List.{length-drop, get_or-drop}
 use Rattle.std.specs.List.{list_any, after_last, before_last, range_with_len, suffix_len}
 use Rattle.std.specs.Str.{bytes_eq, NoCharPasses}

@@ -3,13 +3,17 @@ pub mod AskedLemmas
 pub mod BuilderLemmas
 pub mod CauseLemmas
 pub mod CellLemmas
+pub mod ChunkLemmas
 pub mod DeviceLemmas
 pub mod FoldingLemmas
 pub mod GroupingLemmas
 pub mod HeadLemmas
 pub mod HeaderLemmas
+pub mod LinesLemmas
 pub mod PartLemmas
+pub mod PartsLemmas
 pub mod PlainLemmas
+pub mod PlainTableLemmas
 pub mod PushLemmas
 pub mod ReadingLemmas
 pub mod RecordLemmas

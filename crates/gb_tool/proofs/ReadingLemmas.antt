@@ -1,5 +1,5 @@
 -- A table's text read record by record: what is known of it after the header, after each record, and at the end.
-use Rattle.std.proofs.Common.{◌≡◌, ℕ, ◌+◌, ◌≤◌, true, List, [], ◌∷◌, ◌++◌, length, map, refl, sym, ◌∙◌, ap, append_assoc, arith, length-append, None, Result, Ok, Err, All}
+use Rattle.std.proofs.Common.{◌≡◌, ℕ, ◌+◌, ◌≤◌, List, [], ◌∷◌, ◌++◌, length, map, refl, sym, ◌∙◌, ap, append_assoc, arith, length-append, None, Result, Ok, Err, All}
 use Rattle.std.proofs.lemmas.List.Elements.{All-from_recursion}
 use Rattle.std.specs.List.{filter_map}
 use Rattle.csv.specs.declared.parser.State.{State}
@@ -25,7 +25,7 @@ pub refused_too : {A B : Type 0} (e : TableError) (one : Result A TableFault) (o
 refused_too (Fault fault) one other h r = h (fault_value fault) r
 refused_too NoMemory one other h r = tt
 
-ok_parts : {A B : Type 0} (f : A → B) (r : Result A TableFault) (y : B) → map_ok f r ≡ Ok y → (x : A) × (r ≡ Ok x) × (y ≡ f x)
+pub ok_parts : {A B : Type 0} (f : A → B) (r : Result A TableFault) (y : B) → map_ok f r ≡ Ok y → (x : A) × (r ≡ Ok x) × (y ≡ f x)
 ok_parts f (Ok x) y e = (x, refl, cc)
 ok_parts f (Err fault) y e = cc
 

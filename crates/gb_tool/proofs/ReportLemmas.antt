@@ -2,7 +2,7 @@
 use Rattle.std.proofs.Common.{◌≡◌, ℕ, Bool, true, false, List, [], ◌∷◌, ◌∙◌, Option, Some, None, Result, Ok, Err, cond, length, map, get_or, refl, sym, ap, arith}
 use Rattle.std.specs.Prelude.{option_map, option_and_then}
 use Rattle.std.specs.Result.{result_err}
-use Rattle.gb_defs.specs.Column.{Content, Frame, IsFrame}
+use Rattle.gb_defs.specs.Column.{Content, Frame, IsFrame, rechunked}
 use Rattle.gb_defs.specs.Fault.{Fault}
 use Rattle.gb_defs.specs.Fold.{Method}
 use Rattle.gb_defs.specs.Outcome.{BadGroup, Report, grouped, outcome, outcome_of_table, written}
@@ -22,6 +22,7 @@ use Rattle.gb_tool.specs.Refusal.{IsRefusedTable}
 use Rattle.gb_tool.specs.Asked.{asked_names, asked_table, kept}
 use Rattle.gb_tool.specs.Table.{map_ok}
 use Rattle.gb_tool.proofs.AskedLemmas.{grouped_asked}
+use Rattle.gb_tool.proofs.ChunkLemmas.{grouped_rechunked}
 use Rattle.gb_tool.proofs.ReadingLemmas.{table_is_frame}
 
 -- the names of one key
@@ -67,13 +68,13 @@ module _ (by : List (List ℕ)) (aggs : List (List ℕ × Method)) (options : To
 
 -- the table is grouped by the columns that are asked for as it is whole
 as_whole : (by : List ℕ) (aggs : List (List ℕ × Method)) (options : ToolOptions) (r : Result Frame TableFault) (frame : Frame) → ((whole : Frame) → r ≡ Ok whole → IsFrame whole)
-    → map_ok (kept (asked_names by aggs)) r ≡ Ok frame → outcome_of_table (by ∷ []) aggs options.null_word r ≡ written options.null_word (grouped frame (by ∷ []) aggs)
+    → map_ok (kept (asked_names by aggs)) r ≡ Ok (map rechunked frame) → outcome_of_table (by ∷ []) aggs options.null_word r ≡ written options.null_word (grouped frame (by ∷ []) aggs)
 as_whole by aggs options (Err fault) frame whole e = cc
 as_whole by aggs options (Ok all) frame whole e =
-    let same : kept (asked_names by aggs) all ≡ frame = cc in
-    ap (written options.null_word) (sym (grouped_asked all by aggs (whole all refl)) ∙ ap (λ f. grouped f (by ∷ []) aggs) same)
+    let same : kept (asked_names by aggs) all ≡ map rechunked frame = cc in
+    ap (written options.null_word) (sym (grouped_asked all by aggs (whole all refl)) ∙ ap (λ f. grouped f (by ∷ []) aggs) same ∙ grouped_rechunked frame (by ∷ []) aggs)
 
-module _ (by : List ℕ) (aggs : List (List ℕ × Method)) (options : ToolOptions) (bytes : List ℕ) (frame : Frame) (read : asked_table (asked_names by aggs) bytes options.null_word ≡ Ok frame) where
+module _ (by : List ℕ) (aggs : List (List ℕ × Method)) (options : ToolOptions) (bytes : List ℕ) (frame : Frame) (read : asked_table (asked_names by aggs) bytes options.null_word ≡ Ok (map rechunked frame)) where
   read_outcome : outcome (Group (by ∷ []) aggs options) bytes ≡ written options.null_word (grouped frame (by ∷ []) aggs)
   unfolding outcome
   read_outcome = as_whole by aggs options (table bytes options.null_word) frame (table_is_frame options.null_word bytes) read

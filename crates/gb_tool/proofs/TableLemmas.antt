@@ -7,12 +7,13 @@ use Rattle.std.proofs.lemmas.Bool.{cases_Bool, eqb-true, eq-eqb}
 use Rattle.std.proofs.lemmas.List.{map-append, length-append, length-map}
 use Rattle.gb_defs.specs.Slot.{Slot, slot_at}
 use Rattle.gb_defs.specs.ColumnType.{CategoricalOrdering, ColumnType, Flat, ListOf, ArrayOf, StructOf, Null, Boolean, Unsigned, Signed, Decimal, Date, Time, Datetime, Duration, String, Binary, BinaryOffset, Categorical, Enum}
-use Rattle.gb_defs.specs.Column.{ColumnValue, Frame, fresh_column, names_of, frame_height, all_have_length, repeated_after}
+use Rattle.gb_defs.specs.Column.{ColumnValue, fresh_column, names_of, frame_height, all_have_length, repeated_after}
 use Rattle.gb_defs.specs.Cell.{cell_slot}
 use Rattle.gb_defs.specs.Table.{TableFault, Head, onto, cell_onto, cells_from, coded_slot, record_slots, row_onto, rows_from, slots_of_column, read_column, columns_from, head_of, heads_from, texts_in}
-use Rattle.gb_cols.specs.Column.{ReadsCells, pushed}
+use Rattle.gb_cols.specs.Column.{ReadsCells}
 use Rattle.gb_tool.specs.Asked.{is_asked, kept}
 use Rattle.gb_tool.specs.Building.{IsRoomy, IsWhole, kept_slot, read_if_kept, taken}
+use Rattle.gb_tool.specs.Part.{HasFew}
 use Rattle.gb_tool.specs.Table.{built_from, built_of, head_in, taken_each}
 use Rattle.gb_tool.proofs.PushLemmas.{pushed_fresh}
 
@@ -108,9 +109,26 @@ record_length null_word row heads fields slots e = elim (cases_Bool (length fiel
   | inr h ↦ let bad = rw h at e in cc
 ]
 
+-- the slots of a record are the same in every row
+cells_any : (null_word : List ℕ) (row other k : ℕ) (heads : List Head) (fields : List (List ℕ)) (slots : List Slot) → cells_from null_word row k heads fields ≡ Ok slots → cells_from null_word other k heads fields ≡ Ok slots
+cells_any null_word row other k [] fields slots e = e
+cells_any null_word row other k (head ∷ heads) [] slots e = e
+cells_any null_word row other k (head ∷ heads) (field ∷ fields) slots e =
+    cell_any (cell_slot null_word head.dtype field) (cells_from null_word row (suc k) heads fields) (cells_from null_word other (suc k) heads fields) (cells_any null_word row other (suc k) heads fields) e
+  where
+    cell_any : (o : Option Slot) (r s : Result (List Slot) TableFault) → ((all : List Slot) → r ≡ Ok all → s ≡ Ok all) → cell_onto row k o r ≡ Ok slots → cell_onto other k o s ≡ Ok slots
+    cell_any None r s same h = cc
+    cell_any (Some slot) r s same h = let p = onto_parts slot r slots h in ap (onto slot) (same p.0 p.1) ∙ ap (λ xs. Ok xs) (sym p.2)
+
+pub slots_any : (null_word : List ℕ) (row other : ℕ) (heads : List Head) (fields : List (List ℕ)) (slots : List Slot) → record_slots null_word row heads fields ≡ Ok slots → record_slots null_word other heads fields ≡ Ok slots
+slots_any null_word row other heads fields slots e = elim (cases_Bool (length fields == length heads)) [
+  | inl h ↦ rw h (cells_any null_word row other 1 heads fields slots (rw h at e))
+  | inr h ↦ let bad = rw h at e in cc
+]
+
 -- ---- the slots of several records
 
-row_parts : (r : Result (List Slot) TableFault) (rest : Result (List (List Slot)) TableFault) (all : List (List Slot)) → row_onto r rest ≡ Ok all
+pub row_parts : (r : Result (List Slot) TableFault) (rest : Result (List (List Slot)) TableFault) (all : List (List Slot)) → row_onto r rest ≡ Ok all
     → (slots : List Slot) × (rows : List (List Slot)) × (r ≡ Ok slots) × (rest ≡ Ok rows) × (all ≡ slots ∷ rows)
 row_parts (Err fault) rest all e = cc
 row_parts (Ok slots) rest all e = let p = onto_parts slots rest all e in (slots, p.0, refl, p.1, p.2)
@@ -193,6 +211,10 @@ module _ (asked : List ℕ → Bool) where
   roomy_columns k (head ∷ heads) rows h =
       let few : length (map (kept_slot (asked head.name)) (slots_of_column k rows)) + 1 < 2 ^ 63 = rw (built_length k head rows) h in
       (few, roomy_columns (suc k) heads rows h)
+
+  pub few_columns : (k : ℕ) (heads : List Head) (rows : List (List Slot)) → length rows ≤ 4294967295 → AllByRecursion HasFew (built_from asked k heads rows)
+  few_columns k [] rows h = tt
+  few_columns k (head ∷ heads) rows h = (rw (built_length k head rows) h, few_columns (suc k) heads rows h)
 
   pub whole_columns : (k : ℕ) (heads : List Head) (rows : List (List Slot)) → length rows ≤ 4294967295 → AllByRecursion IsWhole (built_from asked k heads rows)
   whole_columns k [] rows h = tt

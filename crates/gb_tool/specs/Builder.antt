@@ -1,6 +1,6 @@
 -- What the cells of a column are kept as while they are read.
-use Rattle.std.specs.Prelude.{◌≡◌, ℕ, true, false, Option, Some, None, replicate}
-use Rattle.gb_defs.specs.Column.{ColumnValue, fresh_column}
+use Rattle.std.specs.Prelude.{◌≡◌, ℕ, true, false, List, map, Option, Some, None, replicate}
+use Rattle.gb_defs.specs.Column.{ColumnValue, Frame, fresh_column, rechunked}
 use Rattle.gb_defs.specs.ColumnType as types
 use Rattle.gb_defs.specs.Slot.{Nil}
 use Rattle.gb_cols.specs.Column.{ReadsCells}
@@ -10,6 +10,7 @@ use Rattle.gb_logical.specs.Logical.{typed_as}
 use Rattle.gb_base.specs.declared.data_type.DataType.{DataType}
 use Rattle.gb_base.specs.declared.data_type.DataType.TheVariants.{Categorical}
 use Rattle.gb_series.specs.Series.{value_of}
+use Rattle.gb_series.specs.declared.series.Series.{Series}
 use Rattle.gb_tool.specs.Building.{Building}
 use Rattle.gb_tool.specs.declared.table.builder.Cells.{Cells}
 use Rattle.gb_tool.specs.declared.table.builder.Cells.TheVariants.{Slots, Texts}
@@ -34,3 +35,11 @@ TakesCells (Texts texts ordering) = texts.dtype ≡ types.text
 abbrev pub built : Cells → Option ℕ → Building
 built cells None = record { keeps = true; column = slots_in cells }
 built cells (Some count) = record { keeps = false; column = fresh_column (slots_in cells).name (slots_in cells).dtype (replicate count Nil) }
+
+-- the column in one chunk
+abbrev pub rechunked_of : Series → ColumnValue
+rechunked_of column = rechunked (value_of column)
+
+-- the columns, each in one chunk
+abbrev pub read_in : List Series → Frame
+read_in columns = map rechunked_of columns

@@ -2,7 +2,7 @@
 use Rattle.std.specs.Prelude.{◌≡◌, ℕ, ◌≤◌, Bool, List, length, Option, Some, None, option_map, refl, if◌then◌else◌}
 use Rattle.std.specs.Coded.{Coded, code_by, coded×, coded_bool}
 use Rattle.gb_defs.specs.Cell.{cell_slot}
-use Rattle.gb_defs.specs.Column.{ColumnValue, column_code, fresh_column}
+use Rattle.gb_defs.specs.Column.{ColumnValue, column_code, fresh_column, rechunked}
 use Rattle.gb_defs.specs.Slot.{Slot, Nil}
 use Rattle.gb_defs.specs.Table.{read_column}
 use Rattle.gb_cols.specs.Column.{HasRoom, pushed}
@@ -36,15 +36,19 @@ BuildsCell null_word old new cell took = if_taken took new ≡ building_with nul
 abbrev pub IsRoomy : Building → Type 0
 IsRoomy b = HasRoom b.column
 
--- one chunk of slots that are not too many for codes
+-- the column in one chunk
+abbrev pub in_one_chunk : Building → Building
+in_one_chunk b = record { keeps = b.keeps; column = rechunked b.column }
+
+-- slots with no flag, which are not too many for codes
 pub record IsWholeColumn (c : ColumnValue) : Type 0 where
-  pub fresh : c ≡ fresh_column c.name c.dtype c.slots
+  pub fresh : rechunked c ≡ fresh_column c.name c.dtype c.slots
   pub few : length c.slots ≤ 4294967295
 
 abbrev pub IsWhole : Building → Type 0
 IsWhole b = IsWholeColumn b.column
 
--- the column whose cells read as these slots
+-- the column whose cells read as these slots, in one chunk
 abbrev pub read_as : ColumnValue → ColumnValue
 read_as c = read_column c.name c.dtype c.slots
 

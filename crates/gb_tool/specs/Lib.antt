@@ -5,6 +5,7 @@ pub mod FaultText
 pub mod Folds
 pub mod Grouping
 pub mod Head
+pub mod Part
 pub mod Plain
 pub mod Refusal
 pub mod Request

@@ -86,7 +86,8 @@ fn group_report<R: Threads + Sync, G: Gate + Sync>(
 {
     let null_word = options.null_word.as_str();
     let names = names_asked(alloc, by, aggs)?;
-    let frame = table_of(alloc, bytes, null_word, &names)?;
-    let answer = group_frame(rt, alloc, &frame, by, aggs, &pool_of(options), gate)?;
+    let pool = pool_of(options);
+    let frame = table_of(rt, alloc, bytes, null_word, &names, pool.workers())?;
+    let answer = group_frame(rt, alloc, &frame, by, aggs, &pool, gate)?;
     Ok(text::text_of(alloc, &answer, null_word)?)
 }

@@ -2,20 +2,22 @@
 //! fault at its place.
 
 mod builder;
+mod cell;
 mod column;
 mod header;
+mod lines;
 mod plain;
 #[cfg(test)]
 mod tests;
 
 ghost use Rattle.std.specs.Prelude.{◌≡◌, ◌≤◌, ◌++◌, [], true, length, map, All, Ok, Err, OnOk, OnErr, IfOk, IfErr};
 ghost use Rattle.std.specs.List.{cons_option, filter_map};
-ghost use Rattle.gb_defs.specs.Column.{IsFrame};
+ghost use Rattle.gb_defs.specs.Column.{IsFrame, rechunked};
 ghost use Rattle.gb_defs.specs.Table.{table};
 ghost use Rattle.gb_base.specs.PlSmallStr.{IsNoMemory};
-ghost use Rattle.gb_series.specs.Series.{value_of};
 ghost use Rattle.gb_tool.specs.Asked.{asked_table, names_in};
 ghost use Rattle.gb_tool.specs.Building.{IsWhole, read_if_kept};
+ghost use Rattle.gb_tool.specs.Builder.{read_in};
 ghost use Rattle.gb_tool.specs.Refusal.{IsRefusedTable};
 ghost use Rattle.gb_tool.specs.Table.{GivesRecords, HasRecordsOf, left_of};
 ghost use Rattle.csv.specs.Reading.{ReadRecord};
@@ -25,12 +27,14 @@ use crate::status::{TableError, TableFault};
 use crate::table::builder::ColumnBuilder;
 use crate::table::column::push_record;
 use crate::table::header::columns_of_header;
+use crate::table::lines::count_parts;
 use crate::table::plain::plain_table;
 use csv::{ByteRecord, Reader, ReaderBuilder};
 use gb_base::error::{PolarsError, PolarsResult};
 use gb_series::frame::DataFrame;
 use gb_series::series::Series;
 use std::alloc::{AllocError, AllocFailed, Global};
+use std::thread::Threads;
 
 impl From<AllocError> for TableError {
     ghost use Rattle.std.specs.Prelude.{◌≡◌};
@@ -70,7 +74,7 @@ pub fn only_memory<T>(called: PolarsResult<T>) -> Result<T, AllocError>
 fn push_finished(columns: &mut Vec<Series>, builder: ColumnBuilder) -> Result<(), AllocError>
     requires { IsWhole builder }
     ensures { let kept = cons_option (read_if_kept builder) [] in
-        OnOk result (map value_of columns.new.items ≡ map value_of columns.old.items ++ kept) }
+        OnOk result (read_in columns.new.items ≡ read_in columns.old.items ++ kept) }
 {
     match builder.finish()? {
         Some(column) => {
@@ -85,7 +89,7 @@ fn push_finished(columns: &mut Vec<Series>, builder: ColumnBuilder) -> Result<()
 fn finished(builders: Vec<ColumnBuilder>) -> Result<Vec<Series>, AllocError>
     requires { All IsWhole builders.items }
     ensures { let kept = filter_map read_if_kept builders.items in
-        IfOk result (λ columns. map value_of columns.items ≡ kept) }
+        IfOk result (λ columns. read_in columns.items ≡ kept) }
 {
     let mut columns = Vec::new(*builders.allocator());
     for builder in builders {
@@ -98,7 +102,7 @@ fn finished(builders: Vec<ColumnBuilder>) -> Result<Vec<Series>, AllocError>
 fn frame_of(builders: Vec<ColumnBuilder>) -> Result<DataFrame, AllocError>
     requires whole { All IsWhole builders.items }
     requires frame { IsFrame (filter_map read_if_kept builders.items) }
-    ensures { IfOk result (λ frame. frame ≡ filter_map read_if_kept builders.items) }
+    ensures { IfOk result (λ frame. map rechunked frame ≡ filter_map read_if_kept builders.items) }
 {
     match DataFrame::new(finished(builders)?) {
         Ok(frame) => Ok(frame),
@@ -107,20 +111,24 @@ fn frame_of(builders: Vec<ColumnBuilder>) -> Result<DataFrame, AllocError>
     }
 }
 
-/// The columns of these names of the frame that the bytes are, by typed CSV. Every cell of every column
-/// is checked, and reading ends at the first fault, which tells its row and column.
-pub fn table_of(
+/// The columns of these names of the frame that the bytes are, by typed CSV, in any chunks. Every cell of
+/// every column is checked, and the first fault in reading order is told with its row and column. A plain
+/// table is read by all workers; with one no thread is started.
+pub fn table_of<R: Threads + Sync>(
+    rt: &R,
     alloc: Global,
     bytes: &[u8],
     null_word: &str,
     names: &[&str],
+    workers: usize,
 ) -> Result<DataFrame, TableError>
     requires { length bytes.now ≤ 4294967295 }
     ensures ok { let read = asked_table (names_in names.now) bytes.now null_word.now in
-        IfOk result (λ frame. read ≡ Ok frame) }
+        IfOk result (λ frame. read ≡ Ok (map rechunked frame)) }
     ensures err { IfErr result (λ e. IsRefusedTable e (table bytes.now null_word.now)) }
 {
-    if let Some(frame) = plain_table(alloc, bytes, null_word, names)? {
+    let parts = count_parts(bytes.len(), workers);
+    if let Some(frame) = plain_table(rt, alloc, bytes, null_word, names, parts)? {
         return Ok(frame);
     }
     csv_table(alloc, bytes, null_word, names)
@@ -159,7 +167,7 @@ fn csv_table(
 ) -> Result<DataFrame, TableError>
     requires { length bytes.now ≤ 4294967295 }
     ensures ok { let read = asked_table (names_in names.now) bytes.now null_word.now in
-        IfOk result (λ frame. read ≡ Ok frame) }
+        IfOk result (λ frame. read ≡ Ok (map rechunked frame)) }
     ensures err { IfErr result (λ e. IsRefusedTable e (table bytes.now null_word.now)) }
 {
     let mut reader = reader_of(alloc, bytes);

@@ -1,15 +1,15 @@
 //! A column while its cells are read. Categories are read as texts, which get their codes as a whole
 //! once all of them are there. Of a column that nobody asks for, cells are only checked.
 
-ghost use Rattle.std.specs.Prelude.{◌≡◌, [], true, option_map, IfOk, OnErr};
+ghost use Rattle.std.specs.Prelude.{◌≡◌, [], true, option_map, IfOk, OnErr, OnOk};
 ghost use Rattle.std.specs.Bool.{OnFalse};
 ghost use Rattle.std.specs.Str.{IsUtf8};
 ghost use Rattle.gb_defs.specs.Table.{Head};
 ghost use Rattle.gb_base.specs.DataType.{type_of};
 ghost use Rattle.gb_base.specs.PlSmallStr.{name_of};
-ghost use Rattle.gb_series.specs.Series.{value_of};
-ghost use Rattle.gb_tool.specs.Builder.{IsNamed};
-ghost use Rattle.gb_tool.specs.Building.{BuildsCell, IsRoomy, IsWhole, read_if_kept};
+ghost use Rattle.gb_tool.specs.Builder.{IsNamed, rechunked_of};
+ghost use Rattle.gb_tool.specs.Building.{BuildsCell, IsRoomy, IsWhole, in_one_chunk, read_if_kept};
+ghost use Rattle.gb_tool.specs.Part.{HasFew, emptied, joined_to};
 ghost use Rattle.gb_tool.specs.Table.{built_of};
 
 use crate::table::only_memory;
@@ -32,14 +32,14 @@ pub enum Cells {
 }
 
 impl Cells {
-    ghost use Rattle.std.specs.Prelude.{◌≡◌, [], is_some, true, IfOk, OnErr};
+    ghost use Rattle.std.specs.Prelude.{◌≡◌, ◌+◌, ◌<◌, ◌^◌, [], is_some, length, true, IfOk, OnErr, OnOk};
     ghost use Rattle.std.specs.Bool.{OnFalse};
     ghost use Rattle.std.specs.Str.{IsUtf8};
     ghost use Rattle.gb_defs.specs.Cell.{cell_slot};
-    ghost use Rattle.gb_defs.specs.Column.{fresh_column};
+    ghost use Rattle.gb_defs.specs.Column.{fresh_column, rechunked};
     ghost use Rattle.gb_base.specs.DataType.{type_of};
     ghost use Rattle.gb_base.specs.PlSmallStr.{name_of};
-    ghost use Rattle.gb_cols.specs.Column.{HasRoom, TakesCell};
+    ghost use Rattle.gb_cols.specs.Column.{HasRoom, TakesCell, appended};
     ghost use Rattle.gb_series.specs.Series.{value_of};
     ghost use Rattle.gb_tool.specs.Builder.{IsNamed, TakesCells, slots_in};
     ghost use Rattle.gb_tool.specs.Building.{IsWholeColumn, read_as};
@@ -89,11 +89,27 @@ impl Cells {
         }
     }
 
+    // The other's slots behind, in chunks of their own.
+    fn append(&mut self, other: Cells) -> Result<(), AllocError>
+        requires takes { TakesCells self.old }
+        requires takes_other { TakesCells other }
+        requires typed { (slots_in other).dtype ≡ (slots_in self.old).dtype }
+        requires few { length (slots_in self.old).slots + length (slots_in other).slots < 2 ^ 63 }
+        ensures ok { OnOk result (slots_in self.new ≡ appended (slots_in self.old) (slots_in other)) }
+        ensures takes { TakesCells self.new }
+    {
+        match (self, other) {
+            (Cells::Slots(column), Cells::Slots(more)) => only_memory(column.append(more)),
+            (Cells::Texts(texts, _), Cells::Texts(more, _)) => only_memory(texts.append(more)),
+            _ => unreachable!(),
+        }
+    }
+
     // The column of the cells.
     fn finish(self) -> Result<Series, AllocError>
         requires takes { TakesCells self }
         requires whole { IsWholeColumn (slots_in self) }
-        ensures { IfOk result (λ column. value_of column ≡ read_as (slots_in self)) }
+        ensures { IfOk result (λ column. rechunked (value_of column) ≡ read_as (slots_in self)) }
     {
         match self {
             Cells::Slots(column) => Ok(column),
@@ -176,11 +192,28 @@ impl ColumnBuilder {
         }
     }
 
+    /// The other's cells behind. Both are of one type, and keep their slots or do not. Copies no slot.
+    pub fn append(&mut self, other: ColumnBuilder) -> Result<(), AllocError>
+        requires alike { emptied self.old ≡ emptied other }
+        requires few { HasFew self.old × HasFew other }
+        ensures { OnOk result (in_one_chunk self.new ≡ in_one_chunk (joined_to self.old other)) }
+    {
+        let ColumnBuilder { cells, checked } = other;
+        match (self.checked, checked) {
+            (Some(count), Some(more)) => {
+                self.checked = Some(count + more);
+                Ok(())
+            }
+            (None, None) => self.cells.append(cells),
+            _ => unreachable!(),
+        }
+    }
+
     /// The column of the cells, None where they were only checked. One pass over the texts of
     /// categories.
     pub fn finish(self) -> Result<Option<Series>, AllocError>
         requires { IsWhole self }
-        ensures { IfOk result (λ found. option_map value_of found ≡ read_if_kept self) }
+        ensures { IfOk result (λ found. option_map rechunked_of found ≡ read_if_kept self) }
     {
         let ColumnBuilder { cells, checked } = self;
         match checked {

@@ -1,55 +1,38 @@
-//! A table with no quote and no carriage return, read in place. Whatever is not so plain is left to
-//! `csv`, which reads the same records more slowly.
+//! A table that begins with its header, read in place. What does not read, and a closing quote that
+//! something else than a comma or a line end follows, is left to `csv`, which reads the same records more
+//! slowly and tells each fault.
 
-ghost use Rattle.std.specs.Prelude.{◌≡◌, ◌≢◌, ◌≤◌, true, length, All, IfErr, IfOk, IfSome, Ok};
-ghost use Rattle.std.specs.Bool.{OnTrue};
+ghost use Rattle.std.specs.Prelude.{◌≡◌, ◌≢◌, ◌⊎◌, ◌≤◌, true, length, map, All, IfErr, IfOk, IfSome, Ok};
+ghost use Rattle.std.specs.Bool.{OnFalse, OnTrue};
 ghost use Rattle.std.specs.Str.{IsAscii};
+ghost use Rattle.csv.specs.Reading.{strip_bom};
 ghost use Rattle.csv.specs.Records.{fields_of};
+ghost use Rattle.gb_defs.specs.Column.{rechunked};
 ghost use Rattle.gb_defs.specs.Table.{table};
 ghost use Rattle.gb_tool.specs.Asked.{asked_table, names_in};
 ghost use Rattle.gb_tool.specs.Building.{IsRoomy};
-ghost use Rattle.gb_tool.specs.Plain.{BeginsWith, IsCut, TakesLine};
+ghost use Rattle.gb_tool.specs.Plain.{BeginsWith, TakesLine};
 ghost use Rattle.gb_tool.specs.Refusal.{IsRefusedTable};
 
 use crate::status::TableError;
 use crate::table::builder::ColumnBuilder;
+use crate::table::cell::cell_of;
 use crate::table::frame_of;
-use crate::table::header::columns_of_header;
+use crate::table::lines::Lines;
 use csv::ByteRecord;
 use gb_series::frame::DataFrame;
 use std::alloc::{AllocError, Global};
-
-// The cell in front of a text, what stands behind its end, and whether its record ends there. None at
-// a quote or a carriage return. All bytes that are sought are at most a comma.
-fn next_cell(text: &[u8]) -> Option<(&[u8], &[u8], bool)>
-    ensures { IfSome result (λ cut. IsCut text.now cut.0.now cut.1.now cut.2) }
-{
-    for i in 0..text.len() {
-        let byte = text[i];
-        if byte > b',' {
-            continue;
-        }
-        if byte == b',' {
-            return Some((&text[..i], &text[i + 1..], false));
-        }
-        if byte == b'\n' {
-            return Some((&text[..i], &text[i + 1..], true));
-        }
-        if byte == b'"' || byte == b'\r' {
-            return None;
-        }
-    }
-    Some((text, &text[text.len()..], true))
-}
+use std::thread::Threads;
 
 // The record in front of a text, and the text behind it.
 fn plain_header(alloc: Global, text: &[u8]) -> Result<Option<(ByteRecord, &[u8])>, AllocError>
     ensures { IfOk result (λ cut. IfSome cut (λ h. BeginsWith (fields_of h.0) text.now h.1.now)) }
 {
     let mut fields = ByteRecord::new(alloc);
+    let mut room = Vec::new(alloc);
     let mut left = text;
     for _ in 0..u64::MAX {
-        let Some((cell, rest, last)) = next_cell(left) else {
+        let Some((cell, rest, last)) = cell_of(left, &mut room)? else {
             return Ok(None);
         };
         fields.push_field(cell)?;
@@ -61,13 +44,15 @@ fn plain_header(alloc: Global, text: &[u8]) -> Result<Option<(ByteRecord, &[u8])
     Err(AllocError)
 }
 
-// Puts the cells of the record in front of a text at the ends of the columns, and gives the text behind
-// it. None where it is not plain, has not a cell for each column, or a cell does not read.
-fn push_line<'a>(
+/// Puts the cells of the record in front of a text at the ends of the columns, and gives the text behind
+/// it. None where it is not plain, has not a cell for each column, or a cell does not read. The room is
+/// for cells that do not stand in the text as they are.
+pub fn push_line<'a>(
     columns: &mut [ColumnBuilder],
     text: &'a [u8],
     ascii: bool,
     null_word: &str,
+    room: &mut Vec<u8>,
 ) -> Result<Option<&'a [u8]>, AllocError>
     requires room { All IsRoomy columns.old }
     requires ascii { ascii ≡ true → IsAscii text.now }
@@ -81,7 +66,7 @@ fn push_line<'a>(
         if ended {
             return Ok(None);
         }
-        let Some((cell, rest, last)) = next_cell(left) else {
+        let Some((cell, rest, last)) = cell_of(left, room)? else {
             return Ok(None);
         };
         if !column.push_cell(cell, ascii, null_word)? {
@@ -96,47 +81,56 @@ fn push_line<'a>(
     Ok(Some(left))
 }
 
-// Whether a record begins with this byte, whatever was read before.
-fn begins_record(first: u8) -> bool
-    ensures { OnTrue result ((first ≢ 10) × (first ≢ 13)) }
+/// Whether a line end stands where a record would begin: it is passed over.
+pub fn is_line_end(first: u8) -> bool
+    ensures yes { OnTrue result ((first ≡ 10) ⊎ (first ≡ 13)) }
+    ensures no { OnFalse result ((first ≢ 10) × (first ≢ 13)) }
 {
-    first != b'\n' && first != b'\r'
+    first == b'\n' || first == b'\r'
 }
 
-/// The frame of the columns that are asked for, where the bytes are plain and every record reads. A
-/// fault of a plain header is told here, and one behind it is left to `csv`.
-pub fn plain_table(
+// The bytes behind a byte order mark, where they begin with one.
+fn without_mark(bytes: &[u8]) -> &[u8]
+    ensures { result.now ≡ strip_bom bytes.now }
+{
+    if bytes.len() > 2 && bytes[0] == 0xEF && bytes[1] == 0xBB && bytes[2] == 0xBF {
+        return &bytes[3..];
+    }
+    bytes
+}
+
+/// The frame of the columns that are asked for, where the bytes are plain and every record reads. They are
+/// read in so many parts. A fault of a plain header is told here, and one behind it is left to `csv`.
+pub fn plain_table<R: Threads + Sync>(
+    rt: &R,
     alloc: Global,
     bytes: &[u8],
     null_word: &str,
     names: &[&str],
+    parts: usize,
 ) -> Result<Option<DataFrame>, TableError>
-    requires { length bytes.now ≤ 4294967295 }
+    requires few { length bytes.now ≤ 4294967295 }
+    requires some { 1 ≤ parts }
     ensures ok { let read = asked_table (names_in names.now) bytes.now null_word.now in
-        IfOk result (λ found. IfSome found (λ frame. read ≡ Ok frame)) }
+        IfOk result (λ found. IfSome found (λ frame. read ≡ Ok (map rechunked frame))) }
     ensures err { IfErr result (λ e. IsRefusedTable e (table bytes.now null_word.now)) }
 {
-    // A byte order mark begins with this byte.
-    if bytes.is_empty() || bytes[0] == 0xEF || !begins_record(bytes[0]) {
+    let text = without_mark(bytes);
+    if text.is_empty() || is_line_end(text[0]) {
         return Ok(None);
     }
-    let Some((header, rest)) = plain_header(alloc, bytes)? else {
+    let Some((header, text)) = plain_header(alloc, text)? else {
         return Ok(None);
     };
-    let mut columns = columns_of_header(alloc, &header, names)?;
-    let ascii = rest.is_ascii();
-    let mut left = rest;
-    for _ in 0..u64::MAX {
-        if left.is_empty() {
-            return Ok(Some(frame_of(columns)?));
-        }
-        if !begins_record(left[0]) {
-            return Ok(None);
-        }
-        let Some(rest) = push_line(&mut columns, left, ascii, null_word)? else {
-            return Ok(None);
-        };
-        left = rest;
-    }
-    Err(TableError::NoMemory)
+    let lines = Lines {
+        header: &header,
+        names,
+        null_word,
+        text,
+        ascii: text.is_ascii(),
+    };
+    let Some(columns) = lines.read_all(rt, alloc, parts)? else {
+        return Ok(None);
+    };
+    Ok(Some(frame_of(columns)?))
 }

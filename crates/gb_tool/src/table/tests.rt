@@ -1,12 +1,16 @@
 //! Tables that read, and faults at their places.
 
-use super::table_of;
+ghost use Rattle.std.specs.Prelude.{◌≤◌, length};
+
+use super::plain::plain_table;
+use super::{csv_table, table_of};
 use crate::status::{TableError, TableFault};
 use gb_cols::series_trait::SeriesTrait;
 use gb_series::frame::DataFrame;
 use gb_series::series::Series;
 use std::alloc::{AllocError, Global};
 use std::test::Fail;
+use std::thread::Threads;
 
 // The cells of a column, with a bar before each.
 fn cells_of(alloc: Global, column: &Series) -> Result<Vec<u8>, AllocError> {
@@ -108,7 +112,7 @@ fn tables_and_faults(rt: HostRuntime) -> Result<(), Fail> {
     ];
     for (text, null_word, want) in cases {
         assert!(rt; text.len() < 100, "at {text:?}");
-        match table_of(alloc, text, null_word, &NAMES) {
+        match table_of(&rt, alloc, text, null_word, &NAMES, 4) {
             Ok(frame) => {
                 let shown = shown(alloc, &frame)?;
                 let shown = shown.as_slice();
@@ -163,7 +167,7 @@ fn columns_that_are_asked(rt: HostRuntime) -> Result<(), Fail> {
         ),
     ];
     for (text, names, want) in cases {
-        match table_of(alloc, text, "", names) {
+        match table_of(&rt, alloc, text, "", names, 4) {
             Ok(frame) => {
                 let shown = shown(alloc, &frame)?;
                 assert!(rt;
@@ -175,6 +179,107 @@ fn columns_that_are_asked(rt: HostRuntime) -> Result<(), Fail> {
                 assert!(rt; want == Err(fault), "at {text:?}: {fault:?}");
             }
             Err(TableError::NoMemory) => return Err(Fail::from(AllocError)),
+        }
+    }
+    Ok(())
+}
+
+// The cells of a table that is read in so many parts, if it is plain and reads.
+fn shown_in_parts<R: Threads + Sync>(
+    rt: &R,
+    alloc: Global,
+    text: &[u8],
+    parts: usize,
+) -> Result<Option<Vec<u8>>, TableError>
+    requires few { length text.now ≤ 1000 }
+    requires some { 1 ≤ parts }
+{
+    match plain_table(rt, alloc, text, "", &NAMES, parts)? {
+        Some(frame) => Ok(Some(shown(alloc, &frame)?)),
+        None => Ok(None),
+    }
+}
+
+// The cells of a table that `csv` reads, if it reads.
+fn shown_by_csv(alloc: Global, text: &[u8]) -> Result<Option<Vec<u8>>, AllocError>
+    requires { length text.now ≤ 1000 }
+{
+    match csv_table(alloc, text, "", &NAMES) {
+        Ok(frame) => Ok(Some(shown(alloc, &frame)?)),
+        Err(TableError::Fault(_)) => Ok(None),
+        Err(TableError::NoMemory) => Err(AllocError),
+    }
+}
+
+// A header, behind a byte order mark or none, a line whose first cell has so many bytes, so many times the
+// same lines, and what stands behind them.
+fn repeated(alloc: Global, long: usize, count: usize, end: &[u8]) -> Result<Vec<u8>, AllocError> {
+    let mut text = Vec::new(alloc);
+    if count > 2 {
+        text.extend_from_slice(b"\xEF\xBB\xBF")?;
+    }
+    text.extend_from_slice(b"k,v:i64,c:cat,d\n")?;
+    for _ in 0..long {
+        text.push(b'k')?;
+    }
+    text.extend_from_slice(b",7,,\n")?;
+    for _ in 0..count {
+        text.extend_from_slice(b"a,1,x,\n,-22,,longer\nb,,y,z\n")?;
+    }
+    text.extend_from_slice(end)?;
+    Ok(text)
+}
+
+// Whether a table is read in parts, from one to eight, as `csv` reads it: at least in so many parts as are
+// sure, and in none where none is.
+fn are_alike<R: Threads + Sync>(
+    rt: &R,
+    alloc: Global,
+    text: &[u8],
+    sure: usize,
+) -> Result<bool, Fail> {
+    if text.len() > 1000 {
+        return Ok(false);
+    }
+    let whole = shown_by_csv(alloc, text)?;
+    for parts in 1..9 {
+        let found = shown_in_parts(rt, alloc, text, parts)?;
+        if found.is_none() && parts <= sure {
+            return Ok(false);
+        }
+        if found.is_some() && (sure == 0 || found != whole) {
+            return Ok(false);
+        }
+    }
+    Ok(true)
+}
+
+// Parts, wherever they are cut, are read as the whole is by `csv`. With each end stands for how many parts
+// that is sure: none where a record does not read or is not plain, and one where a field has a line end.
+#[test]
+fn tables_in_parts(rt: HostRuntime) -> Result<(), Fail> {
+    let alloc = rt.alloc();
+    let ends: [(&[u8], usize); 13] = [
+        (b"", 8),
+        (b"a,1,x,last", 8),
+        (b"a,1,x,\xC3\xA9\n", 8),
+        (b"a,1,x,last\r\na,1,x,last\rb,,,\r", 8),
+        (b"\n\r\n\na,1,x,last\n\n", 8),
+        (b"a,1,\"x\",\"\"\n\"a\",\"1\",,\"last\"\r\n", 8),
+        (b"a,1,x,\"q\"\",\"\"\"\nb,2,,q\"", 8),
+        (b"a,1,x,\"q\n,\"\n", 1),
+        (b"a,1,x,\"q\"q\n", 0),
+        (b"a,1,x,\"q\n", 0),
+        (b"a,1,x\n", 0),
+        (b"a,bad,x,last\n", 0),
+        (b"a,1,x,\xFF\n", 0),
+    ];
+    for (end, sure) in ends {
+        for count in 0..4 {
+            for long in 0..7 {
+                let text = repeated(alloc, long, count, end)?;
+                assert!(rt; are_alike(&rt, alloc, text.as_slice(), sure)?, "{text:?}");
+            }
         }
     }
     Ok(())

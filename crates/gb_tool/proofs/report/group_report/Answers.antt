@@ -1,8 +1,7 @@
-use Rattle.std.proofs.Common.{◌≡◌, ◌∙◌, [], ◌∷◌, Ok, ap, map}
+use Rattle.std.proofs.Common.{[], ◌∷◌, map}
 use Rattle.std.proofs.lemmas.Result.{err_from_is_err_and}
 use Rattle.gb_defs.specs.Column.{content}
 use Rattle.gb_base.specs.PlSmallStr.{name_of}
-use Rattle.gb_tool.specs.Asked.{asked_names, asked_table, names_in}
 use Rattle.gb_tool.specs.Request.{aggs_of, options_of}
 use Rattle.gb_tool.proofs.ReportLemmas.{bad_group, bad_table, good_report}
 use Rattle.gb_tool.proofs.report.group_report.Goals as goal

@@ -1,9 +1,8 @@
-use Rattle.std.proofs.Common.{◌≡◌, ◌∙◌, ◌∷◌, [], ◌++◌, All, List, length, map, ap, refl, sym, append_assoc, append-nil, arith, Option, Some, None}
-use Rattle.std.specs.List.{AllByRecursion, cons_option, filter_map}
+use Rattle.std.proofs.Common.{◌≡◌, ◌∙◌, ◌∷◌, [], ◌++◌, All, List, length, ap, refl, append_assoc, append-nil, arith, Option, Some, None}
+use Rattle.std.specs.List.{AllByRecursion, cons_option}
 use Rattle.std.proofs.lemmas.List.Elements.{All-from_recursion, recursion_from_All}
-use Rattle.std.specs.Vec.Iter.{into_iter_items}
 use Rattle.gb_defs.specs.Column.{ColumnValue}
-use Rattle.gb_series.specs.Series.{value_of}
+use Rattle.gb_tool.specs.Builder.{read_in}
 use Rattle.gb_tool.specs.Building.{Building, IsWhole, read_if_kept}
 use Rattle.gb_tool.proofs.table.finished.Goals as goal
 
@@ -34,7 +33,7 @@ loop-builder-preserved c =
     let short = ap length steps.0 in
     let whole = (first_whole c.in-Some.builder _ (rw steps.0 at at.invariant.1)).1 in
     let all = rw steps.0 at at.invariant.0 in (
-      rw c.in_ok-push_finished.ensures (cons_front (map value_of at.columns.items) (read_if_kept c.in-Some.builder) _ ∙ all),
+      rw c.in_ok-push_finished.ensures (cons_front (read_in at.columns.items) (read_if_kept c.in-Some.builder) _ ∙ all),
       whole,
       omega (arith, steps.1, was, short),
     )

@@ -1,4 +1,4 @@
-use Rattle.std.proofs.Common.{◌≡◌, ◌++◌, ◌∷◌, ◌∙◌, List, [], ℕ, ap, refl, subst, sym, OnOk, append_assoc, codes, map, take, take_all}
+use Rattle.std.proofs.Common.{◌≡◌, ◌++◌, ◌∷◌, ◌∙◌, [], ap, refl, subst, sym, OnOk, append_assoc, codes, map, take, take_all}
 use Rattle.std.proofs.lemmas.List.{append-nil, map_more}
 use Rattle.gb_base.specs.DataType.{fields_of, part_of, type_of}
 use Rattle.gb_base.proofs.DataTypeLemmas.{struct_type}

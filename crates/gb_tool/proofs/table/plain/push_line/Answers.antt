@@ -1,17 +1,22 @@
 use Rattle.std.proofs.Common.{◌≢◌, ◌∙◌, ◌<◌, length, get_or, refl, sym, arith, [], ◌++◌, ◌∷◌}
 use Rattle.std.proofs.lemmas.List.{get_or_default, get_or-set_other, length-set}
 use Rattle.std.proofs.lemmas.Str.{IsUtf8-from_ascii}
-use Rattle.gb_tool.proofs.PlainLemmas.{cell_ascii, rest_ascii}
+use Rattle.csv.specs.declared.parser.State.TheVariants as st
+use Rattle.gb_tool.proofs.PlainLemmas.{behind_more, cell_ascii, goes_here, rest_ascii}
 use Rattle.gb_tool.proofs.PushLemmas.{passing_none, passing_more, passing_all}
 use Rattle.gb_tool.proofs.table.plain.push_line.Goals as goal
 
 pub loop-column-init : goal.loop-column-init
 loop-column-init c = record {
   done = [];
+  state = st.StartRecord;
+  left = c.args.text.now;
   read = refl;
+  goes_on = goes_here c.args.text.now;
   passing = passing_none c.args.null_word.now c.args.columns.now;
   roomy = λ k d low lt. c.requires.room k d lt;
   is_ascii = c.requires.ascii;
+  behind = record { count = 0; is = refl };
 }
 
 pub push_cell-requires-clause-room : goal.push_cell-requires-clause-room
@@ -19,7 +24,8 @@ push_cell-requires-clause-room c = c.loop-column.invariant.roomy c.loop-column.c
 
 pub push_cell-requires-clause-is_text : goal.push_cell-requires-clause-is_text
 push_cell-requires-clause-is_text c = λ ascii.
-    IsUtf8-from_ascii _ (cell_ascii c.loop-column.left.now c.in-Some.cell.now c.in-Some.rest.now c.in-Some.last c.in-Some.ensures (c.loop-column.invariant.is_ascii ascii))
+    let cut = rw c.in-Some.is at c.in_ok-cell.ensures in
+    IsUtf8-from_ascii _ (cell_ascii c.loop-column.left.now c.in-Some.cell.now c.in-Some.rest.now c.in-Some.last cut (c.loop-column.invariant.is_ascii ascii))
 
 pub loop-column-preserved : goal.loop-column-preserved
 loop-column-preserved c =
@@ -29,16 +35,21 @@ loop-column-preserved c =
     let lt : c.loop-column.column-index < length now = omega arith in
     let good = rw c.if-not-branch.false at c.in_ok-push_cell.ensures.ok in
     let read = rw c.if-ended.false at s.read in
+    let cut = rw c.in-Some.is at c.in_ok-cell.ensures in
     record {
       done = s.done ++ c.in-Some.cell.now ∷ [];
-      read = read ∙ c.in-Some.ensures.reads s.done;
+      state = cut.state;
+      left = cut.left;
+      read = read ∙ cut.reads s.done;
+      goes_on = cut.goes_on;
       passing = passing_more c.args.null_word.now c.args.columns.now s.done
           c.loop-column.column-index now s.passing column c.in-Some.cell.now lt (get_or_default now c.loop-column.column-index c.column-item.result column lt) c.push_cell.new.self (sym good);
       roomy = λ k d low high.
           let other : k ≢ c.loop-column.column-index = omega (arith, low) in
           let below : k < length now = omega (arith, high, length-set now c.loop-column.column-index c.push_cell.new.self) in
           rw (get_or-set_other now c.loop-column.column-index k c.push_cell.new.self d other) (s.roomy k d (omega (arith, low)) below);
-      is_ascii = λ ascii. rest_ascii c.loop-column.left.now c.in-Some.cell.now c.in-Some.rest.now c.in-Some.last c.in-Some.ensures (s.is_ascii ascii);
+      is_ascii = λ ascii. rest_ascii c.loop-column.left.now c.in-Some.cell.now c.in-Some.rest.now c.in-Some.last cut (s.is_ascii ascii);
+      behind = behind_more c.args.text.now c.loop-column.left.now c.in-Some.rest.now s.behind cut.behind;
     }
 
 pub returns-clause-ok : goal.returns-clause-ok
@@ -46,7 +57,7 @@ returns-clause-ok c =
     let s = c.loop-column.invariant in
     record {
       fields = s.done;
-      reads = rw c.if-not-ended.false at s.read;
+      begins = record { state = s.state; left = s.left; reads = rw c.if-not-ended.false at s.read; goes_on = s.goes_on; behind = s.behind };
       takes = λ row. passing_all c.args.null_word.now c.args.columns.now s.done c.loop-column.column-index c.loop-column.columns s.passing row
           (omega arith) (omega arith);
     }

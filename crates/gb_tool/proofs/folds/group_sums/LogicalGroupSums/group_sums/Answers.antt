@@ -1,4 +1,4 @@
-use Rattle.std.proofs.Common.{◌≡◌, ◌∙◌, ap, length, List, ℕ, sym, subst, true, Some}
+use Rattle.std.proofs.Common.{◌≡◌, ◌∙◌, ap, length, ℕ, sym, subst, true, Some}
 use Rattle.std.specs.List.{All}
 use Rattle.gb_defs.specs.Fault.{sums_flat}
 use Rattle.gb_defs.specs.Groups.{AreMembers, lists_in}

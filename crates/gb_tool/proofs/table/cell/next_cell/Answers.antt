@@ -1,10 +1,10 @@
 use Rattle.std.proofs.Common.{◌+◌, length, arith}
 use Rattle.std.proofs.lemmas.List.{drop_all, take_rest}
-use Rattle.gb_tool.proofs.PlainLemmas.{scan_none, scan_more, cut_comma, cut_feed, cut_end}
-use Rattle.gb_tool.proofs.table.plain.next_cell.Goals as goal
+use Rattle.gb_tool.proofs.PlainLemmas.{scan_high, scan_more, cut_comma, cut_feed, cut_end, cut_return}
+use Rattle.gb_tool.proofs.table.cell.next_cell.Goals as goal
 
 pub loop-i-init : goal.loop-i-init
-loop-i-init c = scan_none c.args.text.now
+loop-i-init c = scan_high c.args.text.now c.count_skipped-i.result c.count_skipped-i.ensures.within c.count_skipped-i.ensures.high
 
 pub loop-i-preserved-then-byte-gt44 : goal.loop-i-preserved-then-byte-gt44
 loop-i-preserved-then-byte-gt44 c = scan_more c.args.text.now c.loop-i.i c.loop-i.invariant (omega arith) (omega arith) (omega arith) (omega arith) (omega arith)
@@ -17,6 +17,10 @@ returns-then-byte-eq10 c = rw (take_rest c.args.text.now (c.loop-i.i + 1)) (cut_
 
 pub loop-i-preserved : goal.loop-i-preserved
 loop-i-preserved c = scan_more c.args.text.now c.loop-i.i c.loop-i.invariant (omega arith) (omega arith) (omega arith) (omega arith) (omega arith)
+
+pub returns-then-byte-eq13 : goal.returns-then-byte-eq13
+returns-then-byte-eq13 c =
+    cut_return c.args.text.now c.loop-i.i c.loop-i.invariant (omega arith) c.behind_return.result.now (omega arith) (rw (take_rest c.args.text.now (c.loop-i.i + 1)) at c.behind_return.ensures)
 
 pub returns : goal.returns
 returns c =
