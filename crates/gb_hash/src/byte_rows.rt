@@ -7,9 +7,8 @@ ghost use Rattle.gb_defs.specs.Hash.{hash_of};
 ghost use Rattle.gb_values.specs.Array.{text_slot};
 ghost use Rattle.gb_hash.specs.Keys.{texts_decide, slots_alike};
 
-use crate::dirty_hash::{hash_null, hash_text};
+use crate::dirty_hash::{Mixer, hash_null, hash_text};
 use crate::key_rows::{KeyRows, Steps};
-use crate::mixer::Mixer;
 use gb_cols::chunked::StringChunked;
 use gb_cols::series_trait::SeriesTrait;
 use std::sync::ledger::Ledger;

@@ -1,6 +1,6 @@
 //! The numbers of groups by their keys.
 
-ghost use Rattle.std.specs.Prelude.{◌≡◌, ℕ, ◌-◌, ◌*◌, ◌^◌, ◌<◌, ◌≤◌, ◌==◌, [], IfOk, OnOk, OnErr, length, count_by};
+ghost use Rattle.std.specs.Prelude.{◌≡◌, ℕ, ◌-◌, ◌*◌, ◌^◌, ◌<◌, ◌≤◌, ◌==◌, [], IfOk, OnOk, OnErr, length, count_by, slice_index_or};
 ghost use Rattle.gb_hash.specs.Table.{AgreesInHash, IsTable, IsFreeFor, IsPowerOfTwo, IsRoomy, IsNumbered};
 ghost use Rattle.gb_hash.specs.Entry.{hashes_of, AgreeInHash, IsSpot};
 
@@ -56,6 +56,14 @@ impl<K: Copy + Eq> GroupTable<K> {
         ensures { result ≡ length self.now }
     {
         self.entries.len()
+    }
+
+    /// The key of a group.
+    pub fn key(&self, number: u32) -> K
+        requires { number < length self.now }
+        ensures { (d : K × ℕ) → (slice_index_or self.now number d).0 ≡ result }
+    {
+        self.entries[number as usize].key
     }
 
     /// The number of the key's group, a new one where no group has the key. Any hash will do that

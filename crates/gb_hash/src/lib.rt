@@ -12,7 +12,6 @@ pub mod group_table;
 pub mod id_hasher;
 pub mod key_rows;
 pub mod list_rows;
-pub mod mixer;
 pub mod num_rows;
 pub mod slice_rows;
 #[cfg(test)]

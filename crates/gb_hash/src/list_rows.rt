@@ -1,21 +1,23 @@
-//! The rows of a list of keys, and of texts that lie in one buffer.
+//! The rows of a list of keys, and of texts in chunks.
 
-ghost use Rattle.std.specs.Prelude.{◌≡◌, map, pos, nat_eq};
+ghost use Rattle.std.specs.Prelude.{◌≡◌, ◌++◌, ◌<◌, ◌≤◌, [], length, map, pos, nat_eq, get_or, OnOk};
 ghost use Rattle.std.specs.Bool.{Decides};
 ghost use Rattle.std.specs.Int.{Width, w64, w128};
 ghost use Rattle.gb_defs.specs.Slot.{Bytes, Slot};
 ghost use Rattle.gb_defs.specs.Hash.{hash_of};
 ghost use Rattle.gb_defs.specs.Rows.{rows_of_slots};
+ghost use Rattle.gb_values.specs.Array.{start_of};
 ghost use Rattle.gb_values.specs.Keys.{bytes_slot, key_slot};
 ghost use Rattle.gb_numbers.specs.Native.{Decides-pos};
 ghost use Rattle.gb_hash.specs.Keys.{bytes_decide, numbers_decide, plain_bytes_decide, slots_alike};
 
-use crate::dirty_hash::{hash_null, hash_of_halves, hash_text, with_word};
+use crate::dirty_hash::{Mixer, hash_null, hash_of_halves, hash_text, with_word};
 use crate::key_rows::{KeyRows, Steps};
-use crate::mixer::Mixer;
 use gb_values::nullable::Values;
 use gb_values::utf8::TextValues;
+use std::alloc::{AllocError, Global};
 use std::hash::Hash;
+use std::marker::Model;
 use std::sync::ledger::Ledger;
 
 /// A key that stands for a slot, and hashes as the slot does.
@@ -123,15 +125,85 @@ impl<'a, K: RowKey + Send + Sync, M: Mixer + Sync> KeyRows for ListRows<'a, K, M
     }
 }
 
-/// The rows of texts in one buffer, none of them null; their bytes are the keys.
+/// Texts in chunks, none of them null, each by its place among all.
 #[derive(Drop)]
-pub struct TextRows<'a, M: Mixer> {
-    pub texts: &'a TextValues,
+pub struct TextChunks<'a> {
+    chunks: Vec<&'a TextValues>,
+    // Behind how many texts each chunk ends.
+    ends: Vec<usize>,
+}
+
+impl<'a> Model for TextChunks<'a> {
+    ghost use Rattle.std.specs.Prelude.{List, ℕ};
+    ghost use Rattle.gb_hash.specs.Chunks.{AreEnds, texts_in};
+
+    ghost Value = { List (List ℕ) };
+
+    ghost view = { λ texts. texts_in texts.chunks.items };
+
+    ghost invariant = { λ texts. AreEnds texts.chunks.items texts.ends.items };
+}
+
+impl<'a> TextChunks<'a> {
+    /// No texts.
+    pub fn new(alloc: Global) -> TextChunks<'a>
+        ensures { result ≡ [] }
+    {
+        TextChunks {
+            chunks: Vec::new(alloc),
+            ends: Vec::new(alloc),
+        }
+    }
+
+    /// A chunk more behind the others. More texts than a `usize` counts are more than memory holds.
+    pub fn push(&mut self, chunk: &'a TextValues) -> Result<(), AllocError>
+        ensures { OnOk result (self.new ≡ self.old ++ chunk.now) }
+    {
+        let end = self.len().checked_add(chunk.len()).ok_or(AllocError)?;
+        self.chunks.reserve(1)?;
+        self.ends.push(end)?;
+        self.chunks.push_reserved(chunk);
+        Ok(())
+    }
+
+    pub fn len(&self) -> usize
+        ensures { result ≡ length self.now }
+    {
+        match self.ends.last() {
+            Some(end) => *end,
+            None => 0,
+        }
+    }
+
+    /// The text at a place. Its chunk is found by a binary search.
+    #[inline]
+    pub fn get(&self, i: usize) -> &'a str
+        requires { i < length self.now }
+        ensures { result.now ≡ get_or self.now i [] }
+    {
+        let at = self.ends.partition_point(|end| *end <= i);
+        self.chunks[at].get(i - chunk_start(&self.ends, at))
+    }
+}
+
+// Behind how many texts the chunk at a place starts.
+#[inline]
+fn chunk_start(ends: &[usize], at: usize) -> usize
+    requires { at ≤ length ends.now }
+    ensures { result ≡ start_of 0 ends.now at }
+{
+    if at == 0 { 0 } else { ends[at - 1] }
+}
+
+/// The rows of texts in chunks, none of them null; their bytes are the keys.
+#[derive(Drop)]
+pub struct TextRows<'r, 'a, M: Mixer> {
+    pub texts: &'r TextChunks<'a>,
     pub mixer: M,
 }
 
-impl<'a, M: Mixer> TextRows<'a, M> {
-    pub fn new(texts: &'a TextValues, mixer: M) -> Self
+impl<'r, 'a, M: Mixer> TextRows<'r, 'a, M> {
+    pub fn new(texts: &'r TextChunks<'a>, mixer: M) -> Self
         ensures texts { result.texts.now ≡ texts.now }
         ensures mixer { result.mixer ≡ mixer }
     {
@@ -139,7 +211,7 @@ impl<'a, M: Mixer> TextRows<'a, M> {
     }
 }
 
-impl<'a, M: Mixer + Sync> KeyRows for TextRows<'a, M> {
+impl<'r, 'a, M: Mixer + Sync> KeyRows for TextRows<'r, 'a, M> {
     type Key = &'a [u8];
 
     ghost rows = { λ r. rows_of_slots w64 (M.seed_of r.mixer) (M.mix_of r.mixer) (map (λ t. Bytes t) r.texts.now) };

@@ -6,9 +6,8 @@ ghost use Rattle.gb_defs.specs.Hash.{hash_of};
 ghost use Rattle.gb_values.specs.Array.{native_slot};
 ghost use Rattle.gb_hash.specs.Keys.{numbers_decide, slots_alike};
 
-use crate::dirty_hash::{DirtyHash, hash_null};
+use crate::dirty_hash::{DirtyHash, Mixer, hash_null};
 use crate::key_rows::{KeyRows, Steps};
-use crate::mixer::Mixer;
 use gb_cols::chunked::ChunkedArray;
 use gb_cols::series_trait::SeriesTrait;
 use gb_numbers::numeric::{Native, PolarsNumericType};

@@ -5,9 +5,8 @@ ghost use Rattle.gb_defs.specs.Slot.{Num};
 ghost use Rattle.gb_defs.specs.Rows.{rows_of_slots};
 ghost use Rattle.gb_hash.specs.Keys.{key_slots, keys_decide_by, slots_alike};
 
-use crate::dirty_hash::DirtyHash;
+use crate::dirty_hash::{DirtyHash, Mixer};
 use crate::key_rows::{KeyRows, Steps};
-use crate::mixer::Mixer;
 use std::hash::Hash;
 use std::sync::ledger::Ledger;
 

@@ -1,7 +1,6 @@
 use crate::combine::{_boost_hash_combine, folded_multiply, hash_to_partition};
-use crate::dirty_hash::DirtyHash;
+use crate::dirty_hash::{DirtyHash, Mixer, PlSeedableRandomStateQuality, SeedMixer};
 use crate::id_hasher::IdHasher;
-use crate::mixer::{Mixer, PlSeedableRandomStateQuality, SeedMixer};
 use gb_numbers::numeric::Native;
 use std::test::Fail;
 

@@ -2,3 +2,4 @@ pub mod CategoryLemmas
 pub mod CodingLemmas
 pub mod LogicalLemmas
 pub mod MarkLemmas
+pub mod TextCodeLemmas

@@ -1,2 +1,3 @@
 pub mod Categorical
 pub mod Logical
+pub mod TextCodes

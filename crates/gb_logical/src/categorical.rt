@@ -14,6 +14,7 @@ ghost use Rattle.gb_base.specs.PlSmallStr.{IsNoMemory, name_of};
 mod codes;
 #[cfg(test)]
 mod tests;
+mod text_codes;
 
 pub use codes::codes_in_range;
 use codes::{all_marked, code_texts, marks_of};
@@ -32,6 +33,7 @@ use gb_values::slot_order::SlotOrder;
 use std::alloc::{AllocError, Global};
 use std::marker::Model;
 use std::sync::Arc;
+use text_codes::TextCodes;
 
 /// A column of categories. Its slots are codes, and its type has the text of each.
 #[derive(Drop)]
@@ -73,7 +75,7 @@ impl CategoricalChunked {
         ensures err { IfErr result IsNoMemory }
     {
         let alloc = texts.allocator();
-        let mut known = RevMapping::new(alloc);
+        let mut known = TextCodes::new(alloc)?;
         let mut codes: PrimitiveArray<UInt32Type> = NullableArray::empty(alloc);
         codes.reserve(texts.len())?;
         let (earlier, last) = texts.chunks();
@@ -84,7 +86,7 @@ impl CategoricalChunked {
         let name = texts.name().try_clone()?;
         Ok(CategoricalChunked {
             physical: UInt32Chunked::from_chunk(alloc, name, codes),
-            map: Arc::new(alloc, known)?,
+            map: Arc::new(alloc, known.into_map(alloc)?)?,
             ordering,
             is_enum: false,
             all_used: true,

@@ -17,7 +17,7 @@ abbrev pub rows_of_keys : ℕ → Keys → Rows
 rows_of_keys seed (Words words) = rows_of_slots w64 seed seed_mix (map key_slot words.items)
 rows_of_keys seed (Codes codes) = rows_of_slots w64 seed seed_mix (map key_slot codes.items)
 rows_of_keys seed (Wide words) = rows_of_slots w128 seed seed_mix (map key_slot words.items)
-rows_of_keys seed (Texts texts) = rows_of_slots w64 seed seed_mix (map (λ t. slot.Bytes t) texts.now)
+rows_of_keys seed (Texts texts) = rows_of_slots w64 seed seed_mix (map (λ t. slot.Bytes t) texts)
 rows_of_keys seed (Bytes bytes) = rows_of_slots w64 seed seed_mix (map bytes_slot bytes.items)
 
 abbrev pub are_bytes : Keys → Bool

@@ -1,10 +1,11 @@
 //! The groups of a column's rows: the keys of its rows in one of a few forms, the path by its type and
 //! length, and the groups by them. Rows of a type without values are one run.
 
-ghost use Rattle.std.specs.Prelude.{◌≡◌, ◌<◌, [], true, length, IfOk, IfErr, MatchOption};
+ghost use Rattle.std.specs.Prelude.{◌≡◌, ◌<◌, [], true, length, map, IfOk, IfErr, IfSome, MatchOption};
 ghost use Rattle.std.specs.Thread.{IsSync};
 ghost use Rattle.gb_defs.specs.Groups.{HasRowNumbers, IsWellFormed, idx_groups};
 ghost use Rattle.gb_defs.specs.Path.{hashed_path, path_groups, run_groups};
+ghost use Rattle.gb_defs.specs.Slot as slot;
 ghost use Rattle.gb_base.specs.PlSmallStr.{IsNoMemory};
 ghost use Rattle.gb_base.specs.Pool.{partitions_of, seed_of, threshold_of, workers_of};
 ghost use Rattle.gb_groups.specs.GroupsType.{groups_of};
@@ -19,15 +20,15 @@ use gb_base::error::PolarsResult;
 use gb_base::memory::FreeGate;
 use gb_base::nullable_idx::IdxSize;
 use gb_base::pool::Pool;
-use gb_cols::chunked::ChunkedArray;
+use gb_cols::chunked::{ChunkedArray, StringChunked};
 use gb_cols::null::NullChunked;
 use gb_cols::series_trait::SeriesTrait;
 use gb_groups::groups_idx::GroupsIdx;
 use gb_groups::groups_slice::GroupsSlice;
 use gb_groups::groups_type::GroupsType;
+use gb_hash::dirty_hash::SeedMixer;
 use gb_hash::key_rows::KeyRows;
-use gb_hash::list_rows::{ListRows, TextRows};
-use gb_hash::mixer::SeedMixer;
+use gb_hash::list_rows::{ListRows, TextChunks, TextRows};
 use gb_logical::categorical::CategoricalChunked;
 use gb_logical::logical::{Logical, LogicalKind};
 use gb_numbers::numeric::{Native, PolarsNumericType};
@@ -102,8 +103,8 @@ pub enum Keys<'a> {
     Codes(Vec<Option<u64>>),
     /// Numbers of 128 bits.
     Wide(Vec<Option<u128>>),
-    /// Texts in one buffer, none of them null.
-    Texts(&'a TextValues),
+    /// Texts as they lie, none of them null.
+    Texts(TextChunks<'a>),
     /// Texts and other bytes.
     Bytes(Vec<Option<&'a [u8]>>),
 }
@@ -164,11 +165,32 @@ impl KeyValues for FlagValues {
 impl KeyValues for TextValues {
     fn keys_of(column: &ChunkedArray<TextValues>) -> PolarsResult<Keys<'_>> {
         let _ = column.allocator();
-        match column.all_valid() {
+        match text_chunks(column)? {
             Some(texts) => Ok(Keys::Texts(texts)),
             None => Ok(Keys::Bytes(column.byte_slices()?)),
         }
     }
+}
+
+// The texts of a column as they lie, where none is null.
+fn text_chunks(column: &StringChunked) -> PolarsResult<Option<TextChunks<'_>>>
+    ensures ok { IfOk result (λ found. IfSome found (λ texts.
+        map (λ text. slot.Bytes text) texts ≡ column.now.slots)) }
+    ensures err { IfErr result IsNoMemory }
+{
+    let mut texts = TextChunks::new(column.allocator());
+    let (earlier, last) = column.chunks();
+    for chunk in earlier {
+        let Some(values) = chunk.all_valid() else {
+            return Ok(None);
+        };
+        texts.push(values)?;
+    }
+    let Some(values) = last.all_valid() else {
+        return Ok(None);
+    };
+    texts.push(values)?;
+    Ok(Some(texts))
 }
 
 impl KeyValues for ByteValues<Binary> {

@@ -4,12 +4,9 @@
 #![tactic(auto)]
 
 pub mod group_by;
-mod group_numbers;
 pub mod into_groups;
-mod partitions;
 mod row_groups;
 mod row_hashes;
-mod row_lists;
 #[cfg(test)]
 mod tests;
 pub mod threaded;

@@ -1,20 +1,22 @@
-//! The groups of all or of some of the rows, by one table.
+//! The groups of all or of some of the rows, by one table: first the number of each row's group, where
+//! groups are numbered in the order of their first rows, and from it the rows of each group.
 
-ghost use Rattle.std.specs.Prelude.{◌≡◌, ◌+◌, ◌≤◌, length, zip, IfOk, IfErr, OnOk};
+ghost use Rattle.std.specs.Prelude.{◌≡◌, ℕ, ◌+◌, ◌<◌, ◌≤◌, ◌^◌, length, zip, IfOk, IfErr, OnOk, slice_index};
+ghost use Rattle.std.specs.List.{All, AllZip};
 ghost use Rattle.std.specs.List.Sorted.{IsNonDecreasing};
 ghost use Rattle.gb_defs.specs.Classes.{rows_below};
 ghost use Rattle.gb_defs.specs.Groups.{AreMembers, HasRowNumbers};
 ghost use Rattle.gb_defs.specs.Rows.{AreHashes};
 ghost use Rattle.gb_base.specs.PlSmallStr.{IsNoMemory};
 ghost use Rattle.gb_groups.specs.Groups.{lists_of};
-ghost use Rattle.gb_paths.specs.Numbers.{groups_among};
+ghost use Rattle.gb_paths.specs.Numbers.{AreEntries, IsRoomFor, counts_by, groups_among, lists_by, pairs_by};
 
-use crate::group_numbers::number_groups;
-use crate::row_lists::row_lists;
 use gb_base::error::PolarsResult;
 use gb_base::nullable_idx::IdxSize;
 use gb_groups::groups_idx::IdxVec;
+use gb_hash::group_table::GroupTable;
 use gb_hash::key_rows::{KeyRows, Steps};
+use smallvec::SmallVec;
 use std::alloc::{AllocError, Global};
 use std::sync::ledger::Ledger;
 
@@ -29,6 +31,124 @@ pub fn all_rows(alloc: Global, count: usize) -> Result<Vec<IdxSize>, AllocError>
         rows.push_reserved(row as IdxSize);
     }
     Ok(rows)
+}
+
+/// The first row of each group, and the number of each row's group. The table tells a group's number by
+/// its key.
+#[derive(Drop)]
+pub struct GroupNumbers<K> {
+    pub table: GroupTable<K>,
+    pub first: Vec<IdxSize>,
+    pub of_rows: Vec<u32>,
+}
+
+/// Numbers the groups of some of the rows by one table, in one step a row. The hashes are those of the
+/// rows from `start` on.
+pub fn number_groups<R: KeyRows, L: Ledger>(
+    alloc: Global,
+    rows: &R,
+    members: &[IdxSize],
+    start: usize,
+    hashes: &[u64],
+    steps: &mut Steps<L>,
+) -> PolarsResult<GroupNumbers<R::Key>>
+    requires few { HasRowNumbers (R.rows rows.now).count }
+    requires members { AreMembers (start + length hashes.now) members.now }
+    requires from { All (λ row. start ≤ row) members.now }
+    requires hashes { AreHashes (R.rows rows.now) start hashes.now }
+    ensures classes { IfOk result (λ found.
+        pairs_by members.now found.of_rows.items found.first.items
+        ≡ groups_among (R.rows rows.now) members.now) }
+    ensures entries { IfOk result (λ found.
+        AreEntries R.key_slot (R.rows rows.now) found.first.items found.table) }
+    ensures ascend { IfOk result (λ found. IsNonDecreasing found.first.items) }
+    ensures known { IfOk result (λ found.
+        All (λ number. number < length found.first.items) found.of_rows.items) }
+    ensures each { IfOk result (λ found. length found.of_rows.items ≡ length members.now) }
+    ensures err { IfErr result IsNoMemory }
+    ensures steps { OnOk result (steps.new ≡ steps.old + length members.now) }
+    ensures steps_at_most { steps.new ≤ steps.old + length members.now }
+{
+    let mut table: GroupTable<R::Key> = GroupTable::new(alloc)?;
+    let mut first = Vec::new(alloc);
+    let mut of_rows = Vec::with_capacity(alloc, members.len())?;
+    for row in members {
+        let key = rows.key_at(*row as usize, steps);
+        let number = table.number_of(key, hashes[*row as usize - start])?;
+        if number as usize == first.len() {
+            first.push(*row)?;
+        }
+        of_rows.push_reserved(number);
+    }
+    Ok(GroupNumbers {
+        table,
+        first,
+        of_rows,
+    })
+}
+
+/// The rows of each group, in their order.
+pub fn row_lists(
+    alloc: Global,
+    rows: &[IdxSize],
+    numbers: &[u32],
+    groups: usize,
+) -> Result<Vec<IdxVec>, AllocError>
+    requires each { length numbers.now ≡ length rows.now }
+    requires few { length numbers.now < 2 ^ 32 }
+    requires known { All (λ number. number < groups) numbers.now }
+    ensures { IfOk result (λ lists. lists_of lists.items ≡ lists_by rows.now numbers.now groups) }
+{
+    let counts = row_counts(alloc, numbers, groups)?;
+    let mut lists = empty_lists(alloc, counts.as_slice())?;
+    fill_lists(lists.as_mut_slice(), rows, numbers);
+    Ok(lists)
+}
+
+// How many rows each group has.
+fn row_counts(alloc: Global, numbers: &[u32], groups: usize) -> Result<Vec<IdxSize>, AllocError>
+    requires few { length numbers.now < 2 ^ 32 }
+    requires known { All (λ number. number < groups) numbers.now }
+    ensures { IfOk result (λ counts. counts.items ≡ counts_by numbers.now groups) }
+{
+    let mut counts = vec![in alloc; 0 as IdxSize; groups]?;
+    count_rows(counts.as_mut_slice(), numbers);
+    Ok(counts)
+}
+
+// Adds one to a group's count for each of its rows.
+fn count_rows(counts: &mut [IdxSize], numbers: &[u32])
+    requires few { length numbers.now < 2 ^ 32 }
+    requires known { All (λ number. number < length counts.old) numbers.now }
+    requires zero { (k : ℕ) → slice_index counts.old k ≡ 0 }
+    ensures { counts.new ≡ counts_by numbers.now (length counts.old) }
+{
+    for number in numbers {
+        counts[*number as usize] += 1;
+    }
+}
+
+// A list for each count, empty.
+fn empty_lists(alloc: Global, counts: &[IdxSize]) -> Result<Vec<IdxVec>, AllocError>
+    ensures { IfOk result (λ lists. AllZip IsRoomFor counts.now lists.items) }
+{
+    let mut lists = Vec::with_capacity(alloc, counts.len())?;
+    for count in counts {
+        lists.push_reserved(SmallVec::with_capacity(alloc, *count as usize)?);
+    }
+    Ok(lists)
+}
+
+// Puts each row into the list of its group.
+fn fill_lists(lists: &mut [IdxVec], rows: &[IdxSize], numbers: &[u32])
+    requires each { length numbers.now ≡ length rows.now }
+    requires known { All (λ number. number < length lists.old) numbers.now }
+    requires room { AllZip IsRoomFor (counts_by numbers.now (length lists.old)) lists.old }
+    ensures { lists_of lists.new ≡ lists_by rows.now numbers.now (length lists.old) }
+{
+    for (place, number) in numbers.iter().enumerate() {
+        lists[*number as usize].push_reserved(rows[place]);
+    }
 }
 
 /// The first row of each group, and its rows.

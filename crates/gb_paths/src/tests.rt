@@ -1,6 +1,7 @@
 //! Both paths on a few rows, under mixers that bring all keys together or keep them apart.
 
 ghost use Rattle.std.specs.Prelude.{ℕ, ◌≡◌, ◌<◌, length, IfOk};
+ghost use Rattle.gb_defs.specs.ColumnType.{Flat, String};
 ghost use Rattle.gb_defs.specs.Groups.{HasRowNumbers};
 
 mod as_slow;
@@ -18,7 +19,7 @@ use gb_cols::chunked::StringChunked;
 use gb_cols::primitive::{Int64Chunked, UInt32Chunked};
 use gb_cols::series_trait::SeriesTrait;
 use gb_groups::groups_type::{GroupsIndicator, GroupsType};
-use gb_hash::mixer::{Mixer, SeedMixer};
+use gb_hash::dirty_hash::{Mixer, SeedMixer};
 use gb_hash::num_rows::NumRows;
 use gb_series::series::Series;
 use std::alloc::Global;
@@ -96,7 +97,8 @@ fn numbers(alloc: Global, values: &[Option<i64>]) -> PolarsResult<Int64Chunked>
 
 fn texts(alloc: Global, values: &[Option<&str>]) -> PolarsResult<StringChunked>
     requires { HasRowNumbers (length values.now) }
-    ensures { IfOk result (λ c. length c.slots ≡ length values.now) }
+    ensures len { IfOk result (λ c. length c.slots ≡ length values.now) }
+    ensures typed { IfOk result (λ c. c.dtype ≡ Flat String) }
 {
     let mut column = StringChunked::new(alloc, PlSmallStr::from_str(alloc, "key")?);
     for text in values {
@@ -240,6 +242,17 @@ fn group_columns<T: Abort + Threads + Sync>(
     );
     let values = [None, Some(""), None];
     assert!(rt; texts_are(rt, alloc, pool, &values, &[(0, &[0, 2]), (1, &[1])])?);
+    let mut column = texts(alloc, &[Some("b"), Some("a")])?;
+    column.append(texts(alloc, &[Some("a"), Some("c"), Some("b")])?)?;
+    assert!(rt;
+        has_groups(
+            rt,
+            pool,
+            &column,
+            true,
+            &[(0, &[0, 4]), (1, &[1, 2]), (3, &[3])]
+        )?
+    );
     let values = [Some(-3), None, Some(-3), None];
     assert!(rt; numbers_are(rt, alloc, pool, &values, &[(0, &[0, 2]), (1, &[1, 3])])?);
     let name = PlSmallStr::from_str(alloc, "key")?;

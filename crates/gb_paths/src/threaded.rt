@@ -1,31 +1,32 @@
 //! Groups by a table for each partition of the hashes. The partitions are dealt to the workers, each of
 //! which takes its own one after another.
 
-ghost use Rattle.std.specs.Prelude.{◌≡◌, ◌+◌, ◌<◌, ◌≤◌, map, length, take, drop, IfOk, IfErr};
+ghost use Rattle.std.specs.Prelude.{◌≡◌, ◌+◌, ◌<◌, ◌≤◌, ◌^◌, All, map, length, take, drop, IfOk, IfErr, OnOk};
+ghost use Rattle.gb_defs.specs.Classes.{rows_below};
 ghost use Rattle.gb_defs.specs.Groups.{AreMembers, HasRowNumbers, IsWellFormed};
-ghost use Rattle.gb_defs.specs.Rows.{AreHashes, hashed_groups, rows_of_slots};
+ghost use Rattle.gb_defs.specs.Hash.{partition_of};
+ghost use Rattle.gb_defs.specs.Rows.{AreHashes, Rows, hashed_groups, rows_of_slots};
 ghost use Rattle.gb_base.specs.PlSmallStr.{IsNoMemory};
 ghost use Rattle.gb_groups.specs.Groups.{lists_of, pairs_of};
 ghost use Rattle.gb_groups.specs.GroupsType.{groups_of};
 ghost use Rattle.gb_hash.specs.Keys.{key_slots};
 ghost use Rattle.gb_paths.specs.Numbers.{groups_among};
-ghost use Rattle.gb_paths.specs.Partitions.{AreListed, groups_of_lists, groups_of_parts};
+ghost use Rattle.gb_paths.specs.Partitions.{AreListed, AreWithin, groups_of_lists, groups_of_parts, rows_by_partition};
 
-use crate::partitions::partition_rows;
-use crate::row_groups::group_members;
+use crate::row_groups::{all_rows, group_members, row_lists};
 use crate::row_hashes::hash_rows_par;
 use gb_base::device::Gate;
-use gb_base::error::PolarsResult;
+use gb_base::error::{PolarsError, PolarsResult};
 use gb_base::nullable_idx::IdxSize;
 use gb_base::pool::Pool;
 use gb_flat::shares::{join_shares, map_shares};
 use gb_groups::groups_idx::{GroupsIdx, IdxItem, IdxVec};
 use gb_groups::groups_type::GroupsType;
-use gb_hash::dirty_hash::DirtyHash;
+use gb_hash::combine::hash_to_partition;
+use gb_hash::dirty_hash::{DirtyHash, Mixer};
 use gb_hash::key_rows::{KeyRows, Steps};
-use gb_hash::mixer::Mixer;
 use gb_hash::slice_rows::SliceRows;
-use std::alloc::Global;
+use std::alloc::{AllocError, Global};
 use std::hash::Hash;
 use std::marker::Brand;
 use std::sync::ledger::{Blank, Ledger};
@@ -85,6 +86,42 @@ pub fn group_by_threaded_slice<
 {
     let rows = SliceRows::new(keys, mixer);
     group_by_threaded_iter(rt, alloc, &rows, n_partitions, sorted, pool, gate)
+}
+
+// The rows of each of so many partitions, by the hashes of all rows.
+fn partition_rows(alloc: Global, hashes: &[u64], n_partitions: usize) -> PolarsResult<Vec<IdxVec>>
+    requires some { 1 ≤ n_partitions }
+    requires few { HasRowNumbers (length hashes.now) }
+    ensures rows { IfOk result (λ lists. (r : Rows) → AreHashes r 0 hashes.now
+        → lists_of lists.items
+        ≡ rows_by_partition r.hash n_partitions (rows_below (length hashes.now))) }
+    ensures members { IfOk result (λ lists.
+        All (AreMembers (length hashes.now)) (lists_of lists.items)) }
+    ensures within { OnOk result (AreWithin n_partitions hashes.now) }
+    ensures err { IfErr result IsNoMemory }
+{
+    // More lists than a row number counts are more than memory holds.
+    if n_partitions > u32::MAX as usize {
+        return Err(PolarsError::NoMemory);
+    }
+    let numbers = partition_numbers(alloc, hashes, n_partitions)?;
+    let rows = all_rows(alloc, hashes.len())?;
+    Ok(row_lists(alloc, rows.as_slice(), numbers.as_slice(), n_partitions)?)
+}
+
+// The partition of each hash.
+fn partition_numbers(alloc: Global, hashes: &[u64], n: usize) -> Result<Vec<u32>, AllocError>
+    requires some { 1 ≤ n }
+    requires few { n < 2 ^ 32 }
+    ensures numbers { IfOk result (λ numbers.
+        numbers.items ≡ map (λ h. partition_of h n) hashes.now) }
+    ensures below { IfOk result (λ numbers. All (λ number. number < n) numbers.items) }
+{
+    let mut numbers = Vec::with_capacity(alloc, hashes.len())?;
+    for hash in hashes {
+        numbers.push_reserved(hash_to_partition(*hash, n) as u32);
+    }
+    Ok(numbers)
 }
 
 // The groups of each partition, in order. Each worker has some partitions that follow each other, and

@@ -1,10 +1,12 @@
 -- The columns of a frame, one after the other.
-use Rattle.std.proofs.Common.{◌≡◌, ℕ, zero, suc, ◌+◌, ◌<◌, Bool, true, false, cond, List, [], ◌∷◌, length, map, get_or, drop, Option, Some, refl, sym, ◌∙◌, ap, arith, eq-eqb, eqb-true}
-use Rattle.std.specs.Prelude.{slice_get, ◌==◌}
+use Rattle.std.proofs.Common.{◌≡◌, ℕ, zero, suc, ◌+◌, ◌-◌, ◌<◌, ◌≤◌, ℤ, Bool, true, false, cond, List, [], ◌∷◌, length, map, get_or, drop, Option, Some, refl, sym, ◌∙◌, ap, arith, eq-eqb, eqb-true}
+use Rattle.std.specs.Prelude.{min, slice_get, ◌==◌}
 use Rattle.std.specs.Str.{bytes_eq}
-use Rattle.std.proofs.lemmas.List.{drop_more, length-map}
+use Rattle.std.proofs.lemmas.List.{drop_more, length-drop, length-map, length-take}
 use Rattle.gb_defs.specs.Column.{ColumnValue, Frame, IsFrame, all_have_length, find_column, first_repeated, frame_height, names_of}
-use Rattle.gb_defs.specs.Column.{taken}
+use Rattle.gb_defs.specs.Column.{rechunked, sliced, taken}
+use Rattle.gb_defs.specs.Slices.{slice_end, slice_start}
+use Rattle.gb_series.specs.Frame.{IsSmallFrame}
 
 -- ---- lengths
 
@@ -74,3 +76,53 @@ taken_is rows frame is = record {
 pub taken_height : (rows : List ℕ) (frame : Frame) (n : ℕ) → length rows < n → 0 < n → frame_height (map (taken rows) frame) < n
 taken_height rows [] n lt some = some
 taken_height rows (c ∷ cs) n lt some = rw (length-map rows _) lt
+
+-- ---- the same change of each column
+
+-- each column keeps its name, and its length becomes what the length alone says, which is no more
+module _ (f : ColumnValue → ColumnValue) (h : ℕ → ℕ) (named : (c : ColumnValue) → (f c).name ≡ c.name) (long : (c : ColumnValue) → length (f c).slots ≡ h (length c.slots)) where
+  mapped_names : (frame : Frame) → names_of (map f frame) ≡ names_of frame
+  mapped_names [] = refl
+  mapped_names (c ∷ cs) = ap (λ name. name ∷ names_of (map f cs)) (named c) ∙ ap (λ names. c.name ∷ names) (mapped_names cs)
+
+  mapped_long : (n : ℕ) (frame : Frame) → all_have_length n frame ≡ true → all_have_length (h n) (map f frame) ≡ true
+  mapped_long n [] all = refl
+  mapped_long n (c ∷ cs) all =
+      let parts = long_first (length c.slots == n) (all_have_length n cs) all in
+      long_yes (h n) (f c) (map f cs) (long c ∙ ap h (eqb-true (length c.slots) n parts.0)) ∙ mapped_long n cs parts.1
+
+  mapped_aligned : (frame : Frame) → all_have_length (frame_height frame) frame ≡ true → all_have_length (frame_height (map f frame)) (map f frame) ≡ true
+  mapped_aligned [] all = refl
+  mapped_aligned (c ∷ cs) all = ap (λ n. all_have_length n (map f (c ∷ cs))) (long c) ∙ mapped_long (length c.slots) (c ∷ cs) all
+
+  mapped_height : (frame : Frame) → ((n : ℕ) → h n ≤ n) → frame_height (map f frame) ≤ frame_height frame
+  mapped_height [] less = omega arith
+  mapped_height (c ∷ cs) less = omega (arith, long c, less (length c.slots))
+
+  mapped_small : (frame : Frame) → ((n : ℕ) → h n ≤ n) → IsSmallFrame frame → IsSmallFrame (map f frame)
+  mapped_small frame less is = record {
+    is_frame = record {
+      distinct = ap first_repeated (mapped_names frame) ∙ is.is_frame.distinct;
+      aligned = mapped_aligned frame is.is_frame.aligned;
+    };
+    small = omega (arith, mapped_height frame less, is.small);
+  }
+
+-- how many of so many rows a slice shows
+abbrev count_shown : ℤ → ℕ → ℕ → ℕ
+count_shown offset len n = min (slice_end n offset len - slice_start n offset) (n - slice_start n offset)
+
+sliced_long : (offset : ℤ) (len : ℕ) (c : ColumnValue) → length (sliced offset len c).slots ≡ count_shown offset len (length c.slots)
+sliced_long offset len c =
+    length-take _ (drop (slice_start (length c.slots) offset) c.slots) ∙ ap (min (slice_end (length c.slots) offset len - slice_start (length c.slots) offset)) (length-drop (slice_start (length c.slots) offset) c.slots)
+
+pub sliced_small : (offset : ℤ) (len : ℕ) (frame : Frame) → IsSmallFrame frame → IsSmallFrame (map (sliced offset len) frame)
+sliced_small offset len frame = mapped_small (sliced offset len) (count_shown offset len) (λ c. refl) (sliced_long offset len) frame (λ n. omega arith)
+
+pub rechunked_small : (frame : Frame) → IsSmallFrame frame → IsSmallFrame (map rechunked frame)
+rechunked_small frame = mapped_small rechunked (λ n. n) (λ c. refl) (λ c. refl) frame (λ n. omega arith)
+
+-- ---- things in turn
+
+pub listed_more : {S X : Type 0} (f : S → X) (xs : List S) (i : ℕ) (x : S) → i < length xs → x ≡ get_or xs i x → map f (drop i xs) ≡ f x ∷ map f (drop (i + 1) xs)
+listed_more f xs i x lt read = ap (map f) (drop_more xs i x lt) ∙ ap (λ y. f y ∷ map f (drop (i + 1) xs)) (sym read)

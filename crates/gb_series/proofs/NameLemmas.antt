@@ -1,5 +1,5 @@
 -- The first name that stood before, by a set of the names so far.
-use Rattle.std.proofs.Common.{◌≡◌, ℕ, Bool, true, false, cond, ◌||◌, inl, inr, List, ◌∷◌, Some, sym, ◌∙◌, ap, Bor}
+use Rattle.std.proofs.Common.{◌≡◌, ℕ, Bool, true, false, not, cond, ◌||◌, inl, inr, List, ◌∷◌, Some, refl, sym, ◌∙◌, ap, Bor}
 use Rattle.std.specs.Str.{bytes_eq}
 use Rattle.std.specs.List.{list_any}
 use Rattle.std.specs.Cmp.{both_ways}
@@ -16,6 +16,15 @@ pub record HasSeen (all rest : List (List ℕ)) (keys : List (Bor (List ℕ))) :
   pub names : List (List ℕ)
   pub same : first_repeated all ≡ repeated_after names rest
   pub has : (name : List ℕ) → holds keys name ≡ list_any (bytes_eq name) names
+
+-- what a set's `insert` answers tells whether the key was there
+pub held : (b added : Bool) → added ≡ not b → added ≡ false → b ≡ true
+held true added e f = refl
+held false added e f = cc
+
+pub unheld : (b added : Bool) → added ≡ not b → added ≡ true → b ≡ false
+unheld true added e f = cc
+unheld false added e f = refl
 
 bytes_eq_symm : (xs ys : List ℕ) → bytes_eq xs ys ≡ bytes_eq ys xs
 bytes_eq_symm xs ys =

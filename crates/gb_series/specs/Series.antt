@@ -1,8 +1,8 @@
 -- What contracts see of a column of any type, and the types that columns have.
-use Rattle.std.specs.Prelude.{IsSome}
+use Rattle.std.specs.Prelude.{ℕ, ◌+◌, pos, List, [], ◌∷◌, IsSome}
 use Rattle.gb_base.specs.declared.data_type.DataType.{DataType}
 use Rattle.gb_base.specs.declared.data_type.DataType.TheVariants as dtype
-use Rattle.gb_defs.specs.Column.{ColumnValue}
+use Rattle.gb_defs.specs.Column.{ColumnValue, NotSorted, flagged, sliced}
 use Rattle.gb_series.specs.declared.series.Series.{Series}
 use Rattle.gb_series.specs.declared.series.Series.TheVariants.{Null, Boolean, UInt8, UInt16, UInt32, UInt64, Int8, Int16, Int32, Int64, Int128, Decimal, Date, Datetime, Duration, Time, String, Binary, BinaryOffset, Categorical}
 
@@ -27,6 +27,11 @@ value_of (String c) = c
 value_of (Binary c) = c
 value_of (BinaryOffset c) = c
 value_of (Categorical c) = c
+
+-- parts of these lengths, one after the other from a place on, with no flag
+abbrev pub cut_at : ColumnValue → ℕ → List ℕ → List ColumnValue
+cut_at column start [] = []
+cut_at column start (len ∷ lens) = flagged NotSorted (sliced (pos start) len column) ∷ cut_at column (start + len) lens
 
 -- a series of the type is made by the type alone: of all but categories, whose texts make it, and nested
 -- types today; a decimal type has its scale

@@ -1,9 +1,10 @@
 //! Frames of columns.
 
-ghost use Rattle.std.specs.Prelude.{◌≡◌, ◌==◌, ℕ, ◌<◌, ◌^◌, length, map, None, Some, IfOk, IfErr, IfSome, IfNone, All, option_map, slice_get};
+ghost use Rattle.std.specs.Prelude.{[], ◌≡◌, ◌==◌, ℕ, ◌<◌, ◌^◌, length, map, None, Some, IfOk, IfErr, OnOk, IfSome, IfNone, All, option_map, slice_get};
 ghost use Rattle.gb_defs.specs.Column.{all_have_length as are_all_long, find_column, first_repeated, frame_height, names_of, IsFrame};
 ghost use Rattle.gb_base.specs.PlSmallStr.{name_of, IsNoMemory};
 ghost use Rattle.gb_base.specs.PolarsError.{Explains};
+ghost use Rattle.gb_series.specs.Frame.{are_aligned, are_all_chunked, first_missing, missing_column};
 ghost use Rattle.gb_series.specs.Series.{value_of};
 
 use crate::series::{Column, Series};
@@ -11,6 +12,7 @@ use gb_base::error::{PolarsError, PolarsResult};
 use gb_base::nullable_idx::IdxSize;
 use gb_base::small_str::PlSmallStr;
 use gb_cols::series_trait::SeriesTrait;
+use std::alloc::Global;
 use std::collections::HashSet;
 use std::marker::Model;
 
@@ -36,9 +38,18 @@ impl Model for DataFrame {
 }
 
 impl DataFrame {
-    ghost use Rattle.gb_series.specs.Frame.{frame_fault, missing_column};
+    ghost use Rattle.gb_series.specs.Frame.{are_aligned, frame_fault, missing_column, select_fault};
     ghost use Rattle.gb_series.specs.Series.{value_of};
-    ghost use Rattle.gb_defs.specs.Column.{taken};
+    ghost use Rattle.gb_defs.specs.Column.{rechunked, sliced, taken};
+
+    /// The frame of no columns. It takes no memory.
+    pub fn empty(alloc: Global) -> DataFrame
+        ensures { result ≡ [] }
+    {
+        DataFrame {
+            columns: Vec::new(alloc),
+        }
+    }
 
     /// The frame of these columns, unless two have one name or their lengths differ.
     pub fn new(columns: Vec<Column>) -> PolarsResult<DataFrame>
@@ -122,6 +133,69 @@ impl DataFrame {
         }
         Ok(DataFrame { columns })
     }
+
+    /// The rows from an offset on, so many at most. A negative offset counts from the end. Copies what
+    /// it shows.
+    pub fn slice(&self, offset: i64, len: usize) -> PolarsResult<DataFrame>
+        ensures ok { IfOk result (λ f. f ≡ map (sliced offset len) self.now) }
+        ensures err { IfErr result IsNoMemory }
+    {
+        let mut columns = Vec::with_capacity(*self.columns.allocator(), self.columns.len())?;
+        for column in &self.columns {
+            columns.push(column.slice(offset, len)?)?;
+        }
+        Ok(DataFrame { columns })
+    }
+
+    /// The same rows, in one chunk a column. Copies them all.
+    pub fn rechunk(&self) -> PolarsResult<DataFrame>
+        ensures ok { IfOk result (λ f. f ≡ map rechunked self.now) }
+        ensures err { IfErr result IsNoMemory }
+    {
+        let mut columns = Vec::with_capacity(*self.columns.allocator(), self.columns.len())?;
+        for column in &self.columns {
+            columns.push(column.rechunk()?)?;
+        }
+        Ok(DataFrame { columns })
+    }
+
+    /// The same frame. Copies all rows.
+    pub fn try_clone(&self) -> PolarsResult<DataFrame>
+        ensures ok { IfOk result (λ f. f ≡ self.now) }
+        ensures err { IfErr result IsNoMemory }
+    {
+        let mut columns = Vec::with_capacity(*self.columns.allocator(), self.columns.len())?;
+        for column in &self.columns {
+            columns.push(column.try_clone()?)?;
+        }
+        Ok(DataFrame { columns })
+    }
+
+    /// Whether all columns have chunks of the same lengths. It lists the lengths of each column, which
+    /// takes memory.
+    pub fn is_aligned(&self) -> PolarsResult<bool>
+        ensures ok { IfOk result (λ aligned. aligned ≡ are_aligned self.now) }
+        ensures err { IfErr result IsNoMemory }
+    {
+        have_equal_chunks(&self.columns)
+    }
+
+    /// Copies of the columns of these names, in the order of the names. The names are looked at before
+    /// anything is copied.
+    pub fn select_columns(&self, names: &[PlSmallStr]) -> PolarsResult<Vec<Column>>
+        ensures ok { let found = map (find_column self.now) (map name_of names.now) in
+            IfOk result (λ columns. map Some (map value_of columns.items) ≡ found) }
+        ensures sound { let fault = select_fault self.now (map name_of names.now) in
+            IfOk result (λ _. fault ≡ None) }
+        ensures err { let fault = select_fault self.now (map name_of names.now) in
+            IfErr result (λ e. Explains e fault) }
+    {
+        find_all(&self.columns, names)?;
+        if let Some(name) = repeated_among(names, *self.columns.allocator())? {
+            return Err(PolarsError::Duplicate(name.try_clone()?));
+        }
+        Ok(copies_of(&self.columns, names, *self.columns.allocator())?)
+    }
 }
 
 // The length of the first column, 0 without columns.
@@ -175,4 +249,87 @@ fn position_of(columns: &[Series], name: &str) -> Option<usize>
         }
     }
     None
+}
+
+// Whether all columns have chunks of the same lengths.
+fn have_equal_chunks(columns: &[Series]) -> PolarsResult<bool>
+    ensures ok { IfOk result (λ same. same ≡ are_aligned (map value_of columns.now)) }
+    ensures err { IfErr result IsNoMemory }
+{
+    match columns.split_first() {
+        Some((first, rest)) => all_have_chunks(rest, first.chunk_lengths()?.as_slice()),
+        None => Ok(true),
+    }
+}
+
+// Whether all columns have chunks of these lengths.
+fn all_have_chunks(columns: &[Series], lengths: &[usize]) -> PolarsResult<bool>
+    ensures ok { let all = are_all_chunked lengths.now (map value_of columns.now) in
+        IfOk result (λ have. have ≡ all) }
+    ensures err { IfErr result IsNoMemory }
+{
+    for column in columns {
+        let same = column.chunk_lengths()?.as_slice() == lengths;
+        if !same {
+            return Ok(false);
+        }
+    }
+    Ok(true)
+}
+
+// Refuses the first of the names that no column has.
+fn find_all(columns: &[Series], names: &[PlSmallStr]) -> PolarsResult<()>
+    ensures ok { let fault = first_missing (map value_of columns.now) (map name_of names.now) in
+        OnOk result (fault ≡ None) }
+    ensures err { let fault = first_missing (map value_of columns.now) (map name_of names.now) in
+        IfErr result (λ e. Explains e fault) }
+{
+    for name in names {
+        named_column(columns, name)?;
+    }
+    Ok(())
+}
+
+// The first of the names that stood before.
+fn repeated_among(names: &[PlSmallStr], alloc: Global) -> PolarsResult<Option<&PlSmallStr>>
+    ensures ok { let first = first_repeated (map name_of names.now) in
+        IfOk result (λ name. option_map (λ n. name_of n.now) name ≡ first) }
+    ensures err { IfErr result IsNoMemory }
+{
+    let mut seen: HashSet<&str> = HashSet::new(alloc);
+    for name in names {
+        if !seen.insert(name.as_str())? {
+            return Ok(Some(name));
+        }
+    }
+    Ok(None)
+}
+
+// Copies of the columns of these names, in the order of the names.
+fn copies_of(columns: &[Series], names: &[PlSmallStr], alloc: Global) -> PolarsResult<Vec<Series>>
+    ensures ok { let found = map (find_column (map value_of columns.now)) (map name_of names.now) in
+        IfOk result (λ copies. map Some (map value_of copies.items) ≡ found) }
+    ensures sound { let fault = first_missing (map value_of columns.now) (map name_of names.now) in
+        IfOk result (λ _. fault ≡ None) }
+    ensures err { let fault = first_missing (map value_of columns.now) (map name_of names.now) in
+        IfErr result (λ e. Explains e fault) }
+{
+    let mut copies = Vec::with_capacity(alloc, names.len())?;
+    for name in names {
+        copies.push(named_column(columns, name)?.try_clone()?)?;
+    }
+    Ok(copies)
+}
+
+// The column of this name.
+fn named_column<'a>(columns: &'a [Series], name: &PlSmallStr) -> PolarsResult<&'a Series>
+    ensures ok { let found = find_column (map value_of columns.now) (name_of name.now) in
+        IfOk result (λ column. found ≡ Some (value_of column.now)) }
+    ensures err { let fault = missing_column (map value_of columns.now) (name_of name.now) in
+        IfErr result (λ e. Explains e fault) }
+{
+    match position_of(columns, name.as_str()) {
+        Some(place) => Ok(&columns[place]),
+        None => Err(PolarsError::ColumnNotFound(name.try_clone()?)),
+    }
 }

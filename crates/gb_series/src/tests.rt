@@ -1,6 +1,7 @@
 //! Each public call of the crate once. A check pays for each value that a function may let go, and a series
 //! may hold any type: so a function owns one series at most, and others look at it.
 
+use crate::flatten::flatten_series;
 use crate::frame::DataFrame;
 use crate::series::{Column, IntoSeries, Series};
 use gb_base::any_value::AnyValue;
@@ -161,6 +162,19 @@ fn doubled(alloc: Global, values: &[i64]) -> PolarsResult<Series> {
     Ok(column)
 }
 
+fn has_two_parts(column: &Series) -> bool {
+    match flatten_series(column) {
+        Ok(parts) => parts.len() == 2,
+        Err(_) => false,
+    }
+}
+
+#[test]
+fn one_column_is_two(rt: HostRuntime) -> Result<(), Fail> {
+    assert!(rt; holds_of(doubled(rt.alloc(), &[7, 8]), has_two_parts));
+    Ok(())
+}
+
 #[test]
 fn two_columns_are_one(rt: HostRuntime) -> Result<(), Fail> {
     assert!(rt;
@@ -295,6 +309,35 @@ fn takes_rows(frame: &DataFrame) -> bool {
         && holds_of_frame(frame.take(&[1, 0, 1]), |taken| {
             taken.height() == 3 && taken.get_columns().len() == 2
         })
+}
+
+fn is_copied(frame: &DataFrame) -> bool {
+    holds_of_frame(frame.slice(-1, 5), |part| part.height() == 1)
+        && holds_of_frame(frame.rechunk(), |copy| copy.height() == 2)
+        && holds_of_frame(frame.try_clone(), |copy| copy.width() == 2)
+        && matches!(frame.is_aligned(), Ok(true))
+}
+
+fn selects(frame: &DataFrame, names: &[PlSmallStr]) -> bool {
+    match frame.select_columns(names) {
+        Ok(columns) => columns.len() == names.len(),
+        Err(_) => false,
+    }
+}
+
+#[test]
+fn frames_of_a_frame(rt: HostRuntime) -> Result<(), Fail> {
+    let alloc = rt.alloc();
+    assert!(rt; DataFrame::empty(alloc).is_empty());
+    assert!(rt; holds_of_frame(frame_of(alloc, "b", &[3, 4]), is_copied));
+    let names = [PlSmallStr::from_str(alloc, "b")?];
+    assert!(rt;
+        holds_of_frame(
+            frame_of(alloc, "b", &[3, 4]),
+            |frame| selects(frame, &names)
+        )
+    );
+    Ok(())
 }
 
 #[test]

@@ -1,7 +1,8 @@
 -- What pieces leave in a source, and what a sink holds after them.
 use Rattle.std.proofs.Common.{◌≡◌, ℕ, ◌+◌, ◌≤◌, List, [], ◌++◌, length, take, drop, Option, Some, None, Result, Err, ◌≢◌, option_map, refl, sym, ap, ◌∙◌, ◌<◌, inl, inr, arith, append_assoc, length-append, append-nil}
 use Rattle.std.proofs.Math.Nat.{eq-or-lt_of_le}
-use Rattle.std.proofs.Math.Seq.{take-add}
+use Rattle.std.proofs.Math.Seq.{take-add, take-append-add}
+use Rattle.std.proofs.lemmas.List.{take-append-le, take-take, take_all, take_at}
 use Rattle.std.specs.Option.{IfSome}
 use Rattle.gb_base.specs.Device.{Rose}
 use Rattle.gb_tool.specs.declared.status.Status.{Status}
@@ -86,3 +87,15 @@ input_fault first before after limit left TooLong h k f = absurd f
 -- two errors differ whatever stands beside them
 pub other_err : {A B E : Type 0} (x y : E) → let a : Result A E = Err x in let b : Result A E = Err y in a ≢ b → let c : Result B E = Err x in let d : Result B E = Err y in c ≢ d
 other_err x y n e = let q : x ≡ y = cc in n (ap (λ z. Err z) q)
+
+-- a piece that was read into the room behind some bytes, which are then cut back to it
+pub read_behind : (old zeros whole room post behind : List ℕ) (held count size : ℕ) → held ≡ length old → whole ≡ take (held + 65536) old ++ zeros → count ≤ length room → held + length room ≤ size
+    → take (held + count) (take size (take held whole ++ (room ++ post) ++ behind)) ≡ old ++ take count room
+read_behind old zeros whole room post behind held count size long is low inside =
+    let front : take held whole ≡ old = ap (take held) (is ∙ ap (λ front. front ++ zeros) (take_all (held + 65536) old (omega (arith, long)))) ∙ take_at old zeros held (sym long) in
+    take-take (held + count) size (take held whole ++ (room ++ post) ++ behind) (omega (arith, low, inside))
+    ∙ ap (λ front. take (held + count) (front ++ (room ++ post) ++ behind)) front
+    ∙ ap (take (held + count)) (append_assoc old (room ++ post) behind)
+    ∙ ap (λ n. take (n + count) (old ++ ((room ++ post) ++ behind))) long
+    ∙ take-append-add old ((room ++ post) ++ behind) count
+    ∙ ap (λ piece. old ++ piece) (take-append-le count (room ++ post) behind (omega (arith, low, length-append room post)) ∙ take-append-le count room post low)

@@ -3,8 +3,8 @@ use Rattle.std.specs.Prelude.{map, option_map}
 use Rattle.gb_defs.specs.Request as asked
 use Rattle.gb_base.specs.PlSmallStr.{name_of}
 use Rattle.gb_tool.specs.Request.{aggs_of}
-use Rattle.gb_tool.specs.declared.words.given.Given.{Given}
-use Rattle.gb_tool.specs.declared.words.numbers.Numbers.{Numbers}
+use Rattle.gb_tool.specs.declared.words.Given.{Given}
+use Rattle.gb_tool.specs.declared.words.Numbers.{Numbers}
 
 abbrev pub numbers_of : Numbers → asked.Numbers
 numbers_of n = record { workers = n.workers; partitions = n.partitions; piece = n.piece; threshold = n.threshold; seed = n.seed }

@@ -1,6 +1,6 @@
 //! The pure middle: from the bytes of a table to the text of the answer.
 
-ghost use Rattle.std.specs.Prelude.{◌≡◌, ◌≤◌, IfErr, IfOk, length};
+ghost use Rattle.std.specs.Prelude.{◌≡◌, ◌≤◌, IfErr, IfOk, vec_len};
 ghost use Rattle.gb_defs.specs.Outcome.{Report, outcome};
 ghost use Rattle.gb_base.specs.PlSmallStr.{name_of};
 ghost use Rattle.gb_tool.specs.Asked.{asked_names, names_in};
@@ -29,20 +29,21 @@ fn pool_of(options: &ToolOptions) -> Pool {
     )
 }
 
-/// The text of the answer to the request over the table's bytes. Today a request has one key.
+/// The text of the answer to the request over the table's bytes, which are let go of once they are read.
+/// Today a request has one key.
 pub fn report<R: Threads + Sync, G: Gate + Sync>(
     rt: &R,
     alloc: Global,
     request: &Request,
-    bytes: &[u8],
+    bytes: Vec<u8>,
     gate: &G,
 ) -> Result<Vec<u8>, Status>
-    requires few { length bytes.now ≤ 4294967295 }
+    requires few { vec_len bytes ≤ 4294967295 }
     requires one_key { HasOneKey (request_of request.now) }
     ensures ok { IfOk result (λ text.
-        outcome (request_of request.now) bytes.now ≡ Report text.items) }
+        outcome (request_of request.now) bytes.items ≡ Report text.items) }
     ensures err { IfErr result (λ s.
-        IsRefusedReport s (outcome (request_of request.now) bytes.now)) }
+        IsRefusedReport s (outcome (request_of request.now) bytes.items)) }
 {
     match request {
         Request::Group { by, aggs, options } => {
@@ -75,19 +76,21 @@ fn group_report<R: Threads + Sync, G: Gate + Sync>(
     by: &PlSmallStr,
     aggs: &[Agg],
     options: &ToolOptions,
-    bytes: &[u8],
+    bytes: Vec<u8>,
     gate: &G,
 ) -> Result<Vec<u8>, Status>
-    requires few { length bytes.now ≤ 4294967295 }
+    requires few { vec_len bytes ≤ 4294967295 }
     ensures ok { IfOk result (λ text.
-        outcome (group_by by.now aggs.now options.now) bytes.now ≡ Report text.items) }
+        outcome (group_by by.now aggs.now options.now) bytes.items ≡ Report text.items) }
     ensures err { IfErr result (λ s.
-        IsRefusedReport s (outcome (group_by by.now aggs.now options.now) bytes.now)) }
+        IsRefusedReport s (outcome (group_by by.now aggs.now options.now) bytes.items)) }
 {
     let null_word = options.null_word.as_str();
     let names = names_asked(alloc, by, aggs)?;
     let pool = pool_of(options);
-    let frame = table_of(rt, alloc, bytes, null_word, &names, pool.workers())?;
+    let frame = table_of(rt, alloc, &bytes, null_word, &names, pool.workers())?;
+    // The text of a table takes more room than the columns that were read of it.
+    drop(bytes);
     let answer = group_frame(rt, alloc, &frame, by, aggs, &pool, gate)?;
     Ok(text::text_of(alloc, &answer, null_word)?)
 }

@@ -65,7 +65,7 @@ fn answer<R: Threads + Sync, S: Source, W: Sink, G: Gate + Sync>(
         Err(_) => return Err(Status::NoMemory),
     };
     let bytes = read_all(alloc, source, limit)?;
-    let text = report(rt, alloc, &request, bytes.as_slice(), gate)?;
+    let text = report(rt, alloc, &request, bytes, gate)?;
     write_text(sink, text.as_slice())?;
     Ok(())
 }

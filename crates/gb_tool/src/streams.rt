@@ -12,26 +12,24 @@ use std::alloc::Global;
 /// How many bytes are asked for at a time.
 const ROOM: usize = 65536;
 
-// Moves the next bytes of the source behind `bytes`, and says how many they were.
-fn read_piece<S: Source>(
-    source: &mut S,
-    room: &mut [u8],
-    bytes: &mut Vec<u8>,
-) -> Result<usize, Status>
+// Moves the next bytes of the source behind `bytes`, into the room where they stay, and says how many they
+// were.
+fn read_piece<S: Source>(source: &mut S, bytes: &mut Vec<u8>) -> Result<usize, Status>
     ensures moved { IfOk result (λ count.
         HasMoved count bytes.old.items bytes.new.items (S.left source.old) (S.left source.new)) }
-    ensures fits { IfOk result (λ count. count ≤ length room.old) }
-    ensures ends { IfOk result (λ count. count ≡ 0 → 0 < length room.old
+    ensures fits { IfOk result (λ count. count ≤ 65536) }
+    ensures ends { IfOk result (λ count. count ≡ 0
         → IfSome (S.left source.new) (λ rest. rest ≡ [])) }
     ensures err { IfErr result (λ s. IsPieceFault (S.faults source.old) (S.faults source.new) s) }
     ensures taken { result ≢ Err status.ReadFault
-        → HasTaken (length room.old) (S.left source.old) (S.left source.new) }
+        → HasTaken 65536 (S.left source.old) (S.left source.new) }
     ensures kept { S.faults source.old ≤ S.faults source.new }
 {
-    match source.read(room) {
+    let held = bytes.len();
+    bytes.resize(held + ROOM, 0)?;
+    match source.read(&mut bytes[held..]) {
         Ok(count) => {
-            let piece = &room[..count];
-            bytes.extend_from_slice(piece)?;
+            bytes.truncate(held + count);
             Ok(count)
         }
         Err(Failed) => Err(Status::ReadFault),
@@ -50,12 +48,10 @@ pub fn read_all<S: Source>(alloc: Global, source: &mut S, limit: u64) -> Result<
         → HasTaken (limit + 65536) (S.left source.old) (S.left source.new) }
     ensures kept { S.faults source.old ≤ S.faults source.new }
 {
-    let mut room = vec![in alloc; 0; ROOM]?;
-    let room = room.as_mut_slice();
     let mut bytes = Vec::new(alloc);
     // The label names the loop in its proof.
     'pieces: for _ in 0..u64::MAX {
-        let count = read_piece(source, room, &mut bytes)?;
+        let count = read_piece(source, &mut bytes)?;
         if count == 0 {
             return Ok(bytes);
         }

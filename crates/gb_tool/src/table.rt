@@ -3,7 +3,6 @@
 
 mod builder;
 mod cell;
-mod column;
 mod header;
 mod lines;
 mod plain;
@@ -16,16 +15,15 @@ ghost use Rattle.gb_defs.specs.Column.{IsFrame, rechunked};
 ghost use Rattle.gb_defs.specs.Table.{table};
 ghost use Rattle.gb_base.specs.PlSmallStr.{IsNoMemory};
 ghost use Rattle.gb_tool.specs.Asked.{asked_table, names_in};
-ghost use Rattle.gb_tool.specs.Building.{IsWhole, read_if_kept};
+ghost use Rattle.gb_tool.specs.Building.{IsRoomy, IsWhole, read_if_kept};
 ghost use Rattle.gb_tool.specs.Builder.{read_in};
 ghost use Rattle.gb_tool.specs.Refusal.{IsRefusedTable};
-ghost use Rattle.gb_tool.specs.Table.{GivesRecords, HasRecordsOf, left_of};
+ghost use Rattle.gb_tool.specs.Table.{GivesRecords, HasRecordsOf, columns_with, left_of};
 ghost use Rattle.csv.specs.Reading.{ReadRecord};
-ghost use Rattle.csv.specs.Records.{fields_of};
+ghost use Rattle.csv.specs.Records.{AllText, fields_of};
 
 use crate::status::{TableError, TableFault};
 use crate::table::builder::ColumnBuilder;
-use crate::table::column::push_record;
 use crate::table::header::columns_of_header;
 use crate::table::lines::count_parts;
 use crate::table::plain::plain_table;
@@ -156,6 +154,46 @@ fn read_record(reader: &mut Reader<&[u8]>, fields: &mut ByteRecord) -> Result<bo
         Ok(found) => Ok(found),
         Err(_) => Err(AllocError),
     }
+}
+
+// Whether all bytes of the record are ASCII, by one look at them.
+fn is_ascii(fields: &ByteRecord) -> bool
+    ensures { result ≡ true → AllText (fields_of fields.now) }
+{
+    fields.as_slice().is_ascii()
+}
+
+// Puts the cells of the record of this row at the ends of the columns, or tells its first fault:
+// another number of fields than columns, or a cell that does not read. After a fault some columns may
+// have a slot more.
+fn push_record(
+    columns: &mut [ColumnBuilder],
+    fields: &ByteRecord,
+    row: u64,
+    null_word: &str,
+) -> Result<(), TableError>
+    requires room { All IsRoomy columns.old }
+    ensures ok { let more = columns_with null_word.now row columns.old (fields_of fields.now) in
+        OnOk result (more ≡ Ok columns.new) }
+    ensures err { let more = columns_with null_word.now row columns.old (fields_of fields.now) in
+        IfErr result (λ e. IsRefusedTable e more) }
+{
+    let found = fields.len();
+    let wanted = columns.len();
+    if found != wanted {
+        let fault = TableFault::Ragged(row, found as u64, wanted as u64);
+        return Err(TableError::Fault(fault));
+    }
+    let is_text = is_ascii(fields);
+    for (place, column) in columns.iter_mut().enumerate() {
+        let Some(cell) = fields.get(place) else {
+            unreachable!();
+        };
+        if !column.push_cell(cell, is_text, null_word)? {
+            return Err(TableError::Fault(TableFault::BadCell(row, place as u64 + 1)));
+        }
+    }
+    Ok(())
 }
 
 // The frame of the columns that are asked for, read by `csv`.

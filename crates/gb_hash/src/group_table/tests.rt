@@ -8,5 +8,6 @@ fn keys_are_numbered(rt: HostRuntime) -> Result<(), Fail> {
     assert_eq!(rt; table.number_of(8u64, 1)?, 1);
     assert_eq!(rt; table.number_of(7u64, 1)?, 0);
     assert_eq!(rt; table.len(), 2);
+    assert_eq!(rt; table.key(1), 8);
     Ok(())
 }

@@ -1,9 +1,9 @@
 ghost use Rattle.std.specs.Prelude.{◌≡◌, ◌<◌};
 
 use crate::byte_rows::ByteRows;
+use crate::dirty_hash::SeedMixer;
 use crate::key_rows::{KeyRows, Steps};
-use crate::list_rows::{ListRows, TextRows};
-use crate::mixer::SeedMixer;
+use crate::list_rows::{ListRows, TextChunks, TextRows};
 use crate::num_rows::NumRows;
 use crate::slice_rows::SliceRows;
 use gb_base::error::PolarsResult;
@@ -53,15 +53,28 @@ fn texts_read(alloc: Global) -> PolarsResult<bool> {
     Ok(reads_once(&rows, &keys, &[EIGHT_BY, NULL]))
 }
 
-fn plain_texts_read(alloc: Global) -> PolarsResult<bool> {
-    let mut column = StringChunked::new(alloc, PlSmallStr::from_str(alloc, "t")?);
-    column.push(Some("eight by"))?;
-    column.push(Some("a"))?;
-    let keys = ["eight by".as_bytes(), "a".as_bytes()];
-    match column.all_valid() {
-        Some(texts) => Ok(reads_once(&TextRows::new(texts, mixer()), &keys, &[EIGHT_BY, LETTER_A])),
-        None => Ok(false),
+// A chunk more, of the texts of a column.
+fn push_texts<'a>(texts: &mut TextChunks<'a>, column: &'a StringChunked) -> PolarsResult<()> {
+    if let Some(chunk) = column.all_valid() {
+        texts.push(chunk)?;
     }
+    Ok(())
+}
+
+fn chunks_read(alloc: Global) -> PolarsResult<bool> {
+    let mut first = StringChunked::new(alloc, PlSmallStr::from_str(alloc, "t")?);
+    first.push(Some("eight by"))?;
+    let empty = StringChunked::new(alloc, PlSmallStr::from_str(alloc, "t")?);
+    let mut last = StringChunked::new(alloc, PlSmallStr::from_str(alloc, "t")?);
+    last.push(Some("a"))?;
+    last.push(Some("eight by"))?;
+    let mut texts = TextChunks::new(alloc);
+    push_texts(&mut texts, &first)?;
+    push_texts(&mut texts, &empty)?;
+    push_texts(&mut texts, &last)?;
+    let keys = ["eight by".as_bytes(), "a".as_bytes(), "eight by".as_bytes()];
+    let rows = TextRows::new(&texts, mixer());
+    Ok(reads_once(&rows, &keys, &[EIGHT_BY, LETTER_A, EIGHT_BY]))
 }
 
 fn slices_read() -> bool {
@@ -101,7 +114,7 @@ fn bytes_read() -> bool {
 fn rows_of_columns(rt: HostRuntime) -> Result<(), Fail> {
     assert!(rt; numbers_read(rt.alloc())?);
     assert!(rt; texts_read(rt.alloc())?);
-    assert!(rt; plain_texts_read(rt.alloc())?);
+    assert!(rt; chunks_read(rt.alloc())?);
     Ok(())
 }
 

@@ -6,8 +6,8 @@ ghost use Rattle.gb_values.specs.Array.{native_slot, text_slot};
 ghost use Rattle.gb_logical.specs.Categorical.{HasMarked, IsCodeBelow};
 ghost use Rattle.gb_base.specs.PlSmallStr.{IsNoMemory};
 
+use crate::categorical::text_codes::TextCodes;
 use gb_base::error::PolarsResult;
-use gb_base::rev_mapping::RevMapping;
 use gb_cols::primitive::UInt32Chunked;
 use gb_cols::series_trait::SeriesTrait;
 use gb_numbers::numeric::UInt32Type;
@@ -16,9 +16,9 @@ use gb_values::utf8::Utf8Array;
 use std::alloc::AllocError;
 
 /// The codes of these texts behind the codes before. A text that is new comes last among those known.
-pub(super) fn code_texts(
-    texts: &Utf8Array,
-    known: &mut RevMapping,
+pub(super) fn code_texts<'a>(
+    texts: &'a Utf8Array,
+    known: &mut TextCodes<'a>,
     codes: &mut PrimitiveArray<UInt32Type>,
 ) -> PolarsResult<()>
     requires { length known.old + length texts.now ≤ 4294967295 }
@@ -33,17 +33,17 @@ pub(super) fn code_texts(
     Ok(())
 }
 
-// The code of one text more, null for none.
-fn code_text(
-    text: Option<&str>,
-    known: &mut RevMapping,
+// The code of one text more, null for none. Its error is small, for what is called for each row.
+#[inline]
+fn code_text<'a>(
+    text: Option<&'a str>,
+    known: &mut TextCodes<'a>,
     codes: &mut PrimitiveArray<UInt32Type>,
-) -> PolarsResult<()>
+) -> Result<(), AllocError>
     requires { length known.old < 4294967295 }
     ensures known { OnOk result (known.new ≡ with_text known.old (text_slot text.entry)) }
     ensures codes { let slot = coded_slot known.new (text_slot text.entry) in
         OnOk result (codes.new ≡ codes.old ++ slot ∷ []) }
-    ensures err { IfErr result IsNoMemory }
 {
     match text {
         Some(text) => codes.push(Some(known.code_of(text)?))?,

@@ -9,7 +9,7 @@ use gb_base::nullable_idx::IdxSize;
 use gb_base::pool::Pool;
 use gb_defs::slow;
 use gb_groups::groups_type::{GroupsIndicator, GroupsType};
-use gb_hash::mixer::{Mixer, SeedMixer};
+use gb_hash::dirty_hash::{Mixer, SeedMixer};
 use gb_hash::slice_rows::SliceRows;
 use std::alloc::{AllocError, Global};
 use std::test::Fail;

@@ -79,7 +79,8 @@ impl Cells {
         requires is_text { is_text ≡ true → IsUtf8 cell.now }
         ensures ok { IfOk result
             (TakesCell null_word.now (slots_in self.old) (slots_in self.new) cell.now) }
-        ensures refused { IfOk result (λ took. OnFalse took (slots_in self.new ≡ slots_in self.old)) }
+        ensures refused { IfOk result (λ took.
+            OnFalse took (slots_in self.new ≡ slots_in self.old)) }
         ensures unchanged { OnErr result (slots_in self.new ≡ slots_in self.old) }
         ensures takes { TakesCells self.new }
     {
@@ -95,7 +96,8 @@ impl Cells {
         requires takes_other { TakesCells other }
         requires typed { (slots_in other).dtype ≡ (slots_in self.old).dtype }
         requires few { length (slots_in self.old).slots + length (slots_in other).slots < 2 ^ 63 }
-        ensures ok { OnOk result (slots_in self.new ≡ appended (slots_in self.old) (slots_in other)) }
+        ensures ok { OnOk result
+            (slots_in self.new ≡ appended (slots_in self.old) (slots_in other)) }
         ensures takes { TakesCells self.new }
     {
         match (self, other) {

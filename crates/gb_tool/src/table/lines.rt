@@ -15,7 +15,7 @@ use csv::ByteRecord;
 use std::alloc::{AllocError, Global};
 use std::thread::{self, Threads};
 
-// A part of fewer bytes is not worth a thread.
+// For each so many bytes that a text has begun it may be read in one part more.
 const PART_BYTES: usize = 65_536;
 
 /// The lines of a table behind its header, with what each reader of a part of them knows.
@@ -103,8 +103,8 @@ impl Lines<'_> {
         Ok(all)
     }
 
-    /// The columns of all lines, read in so many parts. None where some line is not plain, or does not
-    /// read. With one part no thread is started.
+    /// The columns of all lines, read in so many parts, or else in one. None where some line is not plain,
+    /// or does not read. With one part no thread is started.
     pub fn read_all<R: Threads + Sync>(
         &self,
         rt: &R,
@@ -119,7 +119,12 @@ impl Lines<'_> {
         ensures err { IfErr result (IsHeaderRefused self.now) }
     {
         let cuts = cuts_of(alloc, self.text, parts)?;
-        self.read_parts(rt, alloc, &cuts)
+        let found = self.read_parts(rt, alloc, &cuts)?;
+        if found.is_some() || parts == 1 {
+            return Ok(found);
+        }
+        // A cut may stand between quotes.
+        self.read(alloc, 0, self.text.len())
     }
 }
 

@@ -1,18 +1,10 @@
-use Rattle.std.proofs.Common.{◌≡◌, ◌+◌, ◌∷◌, ◌∙◌, sym, ap, map, drop, subst, true, false, not, List, ℕ, Bor, Bool, refl, Some, cond}
+use Rattle.std.proofs.Common.{◌≡◌, ◌+◌, ◌∷◌, ◌∙◌, sym, ap, map, drop, subst, true, false, List, ℕ, Bor, Some, cond}
 use Rattle.std.specs.Str.{bytes_eq}
 use Rattle.gb_defs.specs.Column.{Frame, first_repeated, names_of}
 use Rattle.gb_series.specs.Series.{value_of}
 use Rattle.gb_series.proofs.FrameLemmas.{stored_more}
-use Rattle.gb_series.proofs.NameLemmas.{HasSeen, holds, seen_found, seen_more}
+use Rattle.gb_series.proofs.NameLemmas.{HasSeen, held, holds, seen_found, seen_more, unheld}
 use Rattle.gb_series.proofs.frame.repeated_name.Goals as goal
-
-held : (b added : Bool) → added ≡ not b → added ≡ false → b ≡ true
-held true added e f = refl
-held false added e f = cc
-
-unheld : (b added : Bool) → added ≡ not b → added ≡ true → b ≡ false
-unheld true added e f = cc
-unheld false added e f = refl
 
 pub returns-then-not-branch-clause-ok : goal.returns-then-not-branch-clause-ok
 returns-then-not-branch-clause-ok c =

@@ -48,13 +48,13 @@ coded c =
 pub invariant_of-result : goal.invariant_of-result
 invariant_of-result c =
     let fits = subst (λ (t : ColumnType). All (Fits t) c.args.texts.now.slots) c.allocator-alloc.ensures.typed c.len.ensures.fitting in
-    rw (c.in_ok-new.ensures.ok, c.from_chunk.ensures) (record { typed = refl; below = all_below (coded c) fits; used = λ told. all_used (coded c) })
+    rw (c.in_ok-new.ensures.ok, c.in_ok-into_map.ensures.ok, c.from_chunk.ensures) (record { typed = refl; below = all_below (coded c) fits; used = λ told. all_used (coded c) })
 
 pub returns-clause-ok : goal.returns-clause-ok
 returns-clause-ok c =
     let texts = c.code_texts-2.new.known in
     let ordering = ordering_of c.args.ordering in
     let t = λ (ts : List (List ℕ)). Flat (category_type false ts ordering) in
-    ap (λ ts. coded_as (t ts) true c.from_chunk.result) c.in_ok-new.ensures.ok ∙ ap (coded_as (t texts) true) c.from_chunk.ensures
+    ap (λ ts. coded_as (t ts) true c.from_chunk.result) (c.in_ok-new.ensures.ok ∙ c.in_ok-into_map.ensures.ok) ∙ ap (coded_as (t texts) true) c.from_chunk.ensures
     ∙ ap (λ name. coded_as (t texts) true (fresh_column name uint32 c.code_texts-2.new.codes)) (c.in_ok-name.ensures.ok ∙ c.name.ensures.name)
     ∙ coded_column (coded c) c.args.texts.now.name ordering

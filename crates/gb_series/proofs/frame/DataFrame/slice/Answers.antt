@@ -1,0 +1,15 @@
+use Rattle.std.proofs.Common.{◌≡◌, ◌∙◌, sym, ap, map, of_z, subst, to_z, w64}
+use Rattle.std.proofs.lemmas.List.{take_all}
+use Rattle.gb_defs.specs.Column.{Frame, sliced}
+use Rattle.gb_series.specs.Frame.{IsSmallFrame}
+use Rattle.gb_series.specs.Series.{value_of}
+use Rattle.gb_series.proofs.FrameLemmas.{sliced_small}
+use Rattle.gb_series.proofs.frame.DataFrame.slice.Goals as goal
+
+pub invariant_of-result : goal.invariant_of-result
+invariant_of-result c =
+    let offset = to_z w64 (of_z w64 c.args.offset) in
+    let columns = c.self.inside.columns.items in
+    let whole : map value_of c.loop-column.columns.items ≡ map (sliced offset c.args.len) (map value_of columns) =
+    c.loop-column.invariant ∙ ap (λ cs. map (sliced offset c.args.len) (map value_of cs)) (take_all c.loop-column.column-index c.deref-column-items.result.now c.loop-column-test.false ∙ c.deref-column-items.ensures.value) in
+    subst (λ (frame : Frame). IsSmallFrame frame) (sym whole) (sliced_small offset c.args.len (map value_of columns) c.self.invariant)
