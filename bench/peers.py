@@ -46,7 +46,7 @@ def version(name):
 
 def awk(name):
     row = f"NR > 1 {{ sums[${KEY}] += ${AMOUNT}; counts[${KEY}]++ }}"
-    end = 'END { for (key in sums) printf "%s,%d,%d\\n", key, sums[key], counts[key] }'
+    end = 'END { for (key in sums) printf "%s,%.0f,%d\\n", key, sums[key], counts[key] }'
     return [name, "-F,", f"{row} {end}"]
 
 
