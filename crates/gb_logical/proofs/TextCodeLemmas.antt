@@ -12,7 +12,6 @@ use Rattle.std.proofs.lemmas.List.Folds.{list_any_none}
 use Rattle.std.proofs.lemmas.List.Sums.{position_or_len_is}
 use Rattle.std.proofs.lemmas.Map.Keys.{IsDistinct-push}
 use Rattle.std.proofs.lemmas.Map.Made.{AllPairs-from_IsDistinct}
-use Rattle.gb_defs.specs.Hash.{hash_bytes, seed_mix}
 use Rattle.gb_defs.specs.Slot.{Bytes}
 use Rattle.gb_defs.specs.Table.{with_text}
 use Rattle.gb_base.specs.declared.small_str.PlSmallStr.{PlSmallStr}
@@ -27,9 +26,9 @@ Entry = Bor (List ℕ) × ℕ
 abbrev pub key_eq : Bor (List ℕ) → Bor (List ℕ) → Bool
 key_eq x y = bytes_eq x.now y.now
 
-pub none_keyed : (seed : ℕ) → AreTextKeys seed []
+pub none_keyed : (hash : List ℕ → ℕ) → AreTextKeys hash []
 unfolding IsDistinct
-none_keyed seed = record { differ = tt; hashed = λ k d lt. absurd (omega arith); few = omega arith }
+none_keyed hash = record { differ = tt; hashed = λ k d lt. absurd (omega arith); few = omega arith }
 
 text_at : (entries : List Entry) (k : ℕ) (d : Entry) (e : List ℕ) → k < length entries → get_or (key_texts entries) k e ≡ (slice_index_or entries k d).0.now
 text_at entries k d e lt = get_or-map (λ (x : Entry). x.0.now) entries k d e lt
@@ -48,10 +47,10 @@ found_at texts text k differ lt here =
     let inside : nat_lt k (length texts) ≡ true = grind (arith, nat_tests) in
     rw (at, inside) refl
 
-module _ (seed : ℕ) (old : List Entry) (keys : AreTextKeys seed old) (key : Bor (List ℕ)) where
+module _ (hash : List ℕ → ℕ) (old : List Entry) (keys : AreTextKeys hash old) (key : Bor (List ℕ)) where
   -- what holds of the table and the code after a text
   pub record HasCode (new : List Entry) (code : ℕ) : Type 0 where
-    pub keys' : AreTextKeys seed new
+    pub keys' : AreTextKeys hash new
     pub code_is : position (bytes_eq key.now) (key_texts new) ≡ Some code
     pub texts_are : key_texts new ≡ with_text (key_texts old) (Bytes key.now)
 
@@ -62,14 +61,14 @@ module _ (seed : ℕ) (old : List Entry) (keys : AreTextKeys seed old) (key : Bo
       let found = found_at (key_texts old) key.now code keys.differ (omega (arith, k.known, count old)) here in
       let any = found_any (bytes_eq key.now) (key_texts old) code found in
       record {
-        keys' = subst (AreTextKeys seed) (sym k.unchanged) keys;
+        keys' = subst (AreTextKeys hash) (sym k.unchanged) keys;
         code_is = ap (λ (es : List Entry). position (bytes_eq key.now) (key_texts es)) k.unchanged ∙ found;
         texts_are = ap key_texts k.unchanged ∙ ap (λ b. if b then key_texts old else key_texts old ++ key.now ∷ []) (sym any);
       }
 
-  added : (new : List Entry) (code : ℕ) → length old < 4294967295 → IsAdded key_eq old new key (hash_bytes seed seed_mix key.now) code → HasCode new code
+  added : (new : List Entry) (code : ℕ) → length old < 4294967295 → IsAdded key_eq old new key (hash key.now) code → HasCode new code
   added new code few a =
-      let hash = hash_bytes seed seed_mix key.now in
+      let own = hash key.now in
       let none : list_any (bytes_eq key.now) (key_texts old) ≡ false =
       list_any_none (bytes_eq key.now) (key_texts old) (λ k e lt.
       let d : Entry = (key, 0) in
@@ -79,8 +78,8 @@ module _ (seed : ℕ) (old : List Entry) (keys : AreTextKeys seed old) (key : Bo
       record {
         keys' = record {
           differ = subst (λ (ts : List (List ℕ)). IsDistinct bytes_eq ts) (sym longer) (IsDistinct-push nat_list_eq_equiv (key_texts old) key.now keys.differ none);
-          hashed = subst (All (λ (e : Entry). e.1 ≡ hash_bytes seed seed_mix e.0.now)) (sym a.added) (All-push (λ (e : Entry). e.1 ≡ hash_bytes seed seed_mix e.0.now) old (key, hash) keys.hashed refl);
-          few = omega (arith, ap length a.added, length_push old (key, hash));
+          hashed = subst (All (λ (e : Entry). e.1 ≡ hash e.0.now)) (sym a.added) (All-push (λ (e : Entry). e.1 ≡ hash e.0.now) old (key, own) keys.hashed refl);
+          few = omega (arith, ap length a.added, length_push old (key, own));
         };
         code_is =
             ap (position (bytes_eq key.now)) longer ∙ position_pushed (bytes_eq key.now) (key_texts old) key.now none ((bytes_decides key.now key.now).1 refl)
@@ -88,7 +87,7 @@ module _ (seed : ℕ) (old : List Entry) (keys : AreTextKeys seed old) (key : Bo
         texts_are = longer ∙ ap (λ b. if b then key_texts old else key_texts old ++ key.now ∷ []) (sym none);
       }
 
-  pub has_code : (new : List Entry) (code : ℕ) → length old < 4294967295 → IsNumbered key_eq old new key (hash_bytes seed seed_mix key.now) code → HasCode new code
+  pub has_code : (new : List Entry) (code : ℕ) → length old < 4294967295 → IsNumbered key_eq old new key (hash key.now) code → HasCode new code
   has_code new code few numbered = elim numbered [
     | inl k ↦ known new code k
     | inr a ↦ added new code few a
