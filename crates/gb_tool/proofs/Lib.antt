@@ -5,6 +5,7 @@ pub mod CauseLemmas
 pub mod CellLemmas
 pub mod ChunkLemmas
 pub mod DeviceLemmas
+pub mod DigitsLemmas
 pub mod FoldingLemmas
 pub mod GroupingLemmas
 pub mod HeadLemmas

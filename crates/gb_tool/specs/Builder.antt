@@ -1,5 +1,6 @@
 -- What the cells of a column are kept as while they are read.
-use Rattle.std.specs.Prelude.{◌≡◌, ℕ, true, false, List, map, Option, Some, None, replicate}
+use Rattle.std.specs.Prelude.{◌≡◌, ℕ, Bool, true, false, List, map, Option, Some, None, replicate}
+use Rattle.std.specs.Int.{w64}
 use Rattle.gb_defs.specs.Column.{ColumnValue, Frame, fresh_column, rechunked}
 use Rattle.gb_defs.specs.ColumnType as types
 use Rattle.gb_defs.specs.Slot.{Nil}
@@ -31,10 +32,26 @@ abbrev pub TakesCells : Cells → Type 0
 TakesCells (Slots c) = ReadsCells (value_of c).dtype
 TakesCells (Texts texts ordering) = texts.dtype ≡ types.text
 
+-- whole numbers of 64 bits
+abbrev pub IsOfWords : types.ColumnType → Type 0
+IsOfWords (types.Flat (types.Signed w64)) = Unit {0}
+IsOfWords (types.Flat (types.Unsigned w64)) = Unit {0}
+IsOfWords t = ⊥
+
+-- each cell of few digits reads as a slot, and no slot is kept
+pub record PassesDigits (b : Building) : Type 0 where
+  pub unkept : b.keeps ≡ false
+  pub words : IsOfWords b.column.dtype
+
 -- the column so far: with its slots, or with no more than their number
 abbrev pub built : Cells → Option ℕ → Building
 built cells None = record { keeps = true; column = slots_in cells }
 built cells (Some count) = record { keeps = false; column = fresh_column (slots_in cells).name (slots_in cells).dtype (replicate count Nil) }
+
+-- the cells can be taken, and where digits are passed over they may be
+pub record IsBuilder (cells : Cells) (checked : Option ℕ) (passes_digits : Bool) : Type 0 where
+  pub takes : TakesCells cells
+  pub passes : passes_digits ≡ true → PassesDigits (built cells checked)
 
 -- the column in one chunk
 abbrev pub rechunked_of : Series → ColumnValue

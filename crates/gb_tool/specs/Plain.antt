@@ -1,11 +1,11 @@
 -- Texts whose records are cells between commas and line ends, or between quotes.
-use Rattle.std.specs.Prelude.{◌≡◌, ℕ, Bool, List, [], ◌∷◌, ◌++◌, drop, Option, Some, if◌then◌else◌, Ok}
-use Rattle.std.specs.Str.{IsAscii}
+use Rattle.std.specs.Prelude.{◌≡◌, ℕ, ◌<◌, ◌≤◌, Bool, true, List, [], ◌∷◌, ◌++◌, length, drop, Option, Some, if◌then◌else◌, Ok}
+use Rattle.std.specs.Str.{IsAscii, all_ascii_digits}
 use Rattle.csv.specs.declared.parser.State.{State}
 use Rattle.csv.specs.declared.parser.State.TheVariants as st
 use Rattle.csv.specs.Machine.{Read, next_record}
 use Rattle.csv.specs.Reading.{default_config}
-use Rattle.gb_tool.specs.Building.{Building}
+use Rattle.gb_tool.specs.Building.{Building, BuildsCell}
 use Rattle.gb_tool.specs.Table.{columns_with}
 
 -- the one text is what stands behind some bytes of the other
@@ -35,6 +35,18 @@ pub record IsCut (text cell rest : List ℕ) (last : Bool) : Type 0 where
   pub left : List ℕ
   pub goes_on : GoesOn state left rest
   pub reads : (fields : List (List ℕ)) → next_record default_config st.StartField fields [] text ≡ after_cell last (fields ++ cell ∷ []) state left rest
+
+-- digits, so few that they are below any limit of 64 bits
+pub record AreFewDigits (cell : List ℕ) : Type 0 where
+  pub digits : all_ascii_digits cell ≡ true
+  pub some : 0 < length cell
+  pub few : length cell ≤ 15
+
+-- the column has the slot of the cell in front of the text, and the rest stands behind its end
+pub record TakesFront (null_word : List ℕ) (old new : Building) (text rest : List ℕ) (last : Bool) : Type 0 where
+  pub cell : List ℕ
+  pub cut : IsCut text cell rest last
+  pub builds : BuildsCell null_word old new cell true
 
 -- what stands behind the quote that closes a cell, and behind the comma or the line end there
 pub record IsClosed (behind rest : List ℕ) (last : Bool) : Type 0 where

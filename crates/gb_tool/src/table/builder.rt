@@ -1,15 +1,16 @@
 //! A column while its cells are read. Categories are read as texts, which get their codes as a whole
 //! once all of them are there. Of a column that nobody asks for, cells are only checked.
 
-ghost use Rattle.std.specs.Prelude.{◌≡◌, [], true, option_map, IfOk, OnErr, OnOk};
-ghost use Rattle.std.specs.Bool.{OnFalse};
+ghost use Rattle.std.specs.Prelude.{◌≡◌, ℕ, List, [], true, option_map, IfOk, OnErr, OnOk};
+ghost use Rattle.std.specs.Bool.{OnFalse, OnTrue};
 ghost use Rattle.std.specs.Str.{IsUtf8};
 ghost use Rattle.gb_defs.specs.Table.{Head};
 ghost use Rattle.gb_base.specs.DataType.{type_of};
 ghost use Rattle.gb_base.specs.PlSmallStr.{name_of};
-ghost use Rattle.gb_tool.specs.Builder.{IsNamed, rechunked_of};
+ghost use Rattle.gb_tool.specs.Builder.{IsNamed, IsOfWords, PassesDigits, rechunked_of};
 ghost use Rattle.gb_tool.specs.Building.{BuildsCell, IsRoomy, IsWhole, in_one_chunk, read_if_kept};
 ghost use Rattle.gb_tool.specs.Part.{HasFew, emptied, joined_to};
+ghost use Rattle.gb_tool.specs.Plain.{AreFewDigits};
 ghost use Rattle.gb_tool.specs.Table.{built_of};
 
 use crate::table::only_memory;
@@ -123,6 +124,17 @@ impl Cells {
     }
 }
 
+// Whether a type is that of whole numbers of 64 bits.
+fn is_of_words(dtype: &DataType) -> bool
+    ensures { OnTrue result (IsOfWords (type_of dtype.now)) }
+{
+    match dtype {
+        DataType::Int64 => true,
+        DataType::UInt64 => true,
+        _ => false,
+    }
+}
+
 /// A column while its cells are read. Contracts see the slots that the cells read as, a category's as
 /// its texts, or nulls where they are not kept.
 #[derive(Drop)]
@@ -130,10 +142,12 @@ pub struct ColumnBuilder {
     cells: Cells,
     // How many cells were checked, where none is kept.
     checked: Option<usize>,
+    // Whether cells of few digits need no check.
+    passes_digits: bool,
 }
 
 impl Model for ColumnBuilder {
-    ghost use Rattle.gb_tool.specs.Builder.{TakesCells, built};
+    ghost use Rattle.gb_tool.specs.Builder.{IsBuilder, built};
     ghost use Rattle.gb_tool.specs.Building.{Building, building_code};
 
     ghost Value = { Building };
@@ -142,7 +156,7 @@ impl Model for ColumnBuilder {
 
     ghost view = { λ b. built b.cells b.checked };
 
-    ghost invariant = { λ b. TakesCells b.cells };
+    ghost invariant = { λ b. IsBuilder b.cells b.checked b.passes_digits };
 }
 
 impl ColumnBuilder {
@@ -153,17 +167,42 @@ impl ColumnBuilder {
         ensures { let head : Head = record { name = name_of name; dtype = type_of dtype } in
             result ≡ built_of keeps head [] }
     {
+        let passes_digits = is_of_words(&dtype);
         let cells = Cells::new(alloc, name, dtype);
         if keeps {
             ColumnBuilder {
                 cells,
                 checked: None,
+                passes_digits: false,
             }
         } else {
             ColumnBuilder {
                 cells,
                 checked: Some(0),
+                passes_digits,
             }
+        }
+    }
+
+    /// Whether cells of few digits need no check, since each of them reads and none is kept.
+    #[inline(always)]
+    pub fn passes_digits(&self) -> bool
+        ensures { OnTrue result (PassesDigits self.now) }
+    {
+        self.passes_digits
+    }
+
+    /// A cell of few digits more, whichever it is.
+    #[inline(always)]
+    pub fn pass_digits(&mut self)
+        requires passes { PassesDigits self.old }
+        requires room { IsRoomy self.old }
+        ensures { (null_word cell : List ℕ) → AreFewDigits cell →
+            BuildsCell null_word self.old self.new cell true }
+    {
+        match self.checked {
+            Some(count) => self.checked = Some(count + 1),
+            None => unreachable!(),
         }
     }
 
@@ -200,7 +239,11 @@ impl ColumnBuilder {
         requires few { HasFew self.old × HasFew other }
         ensures { OnOk result (in_one_chunk self.new ≡ in_one_chunk (joined_to self.old other)) }
     {
-        let ColumnBuilder { cells, checked } = other;
+        let ColumnBuilder {
+            cells,
+            checked,
+            passes_digits: _,
+        } = other;
         match (self.checked, checked) {
             (Some(count), Some(more)) => {
                 self.checked = Some(count + more);
@@ -217,7 +260,11 @@ impl ColumnBuilder {
         requires { IsWhole self }
         ensures { IfOk result (λ found. option_map rechunked_of found ≡ read_if_kept self) }
     {
-        let ColumnBuilder { cells, checked } = self;
+        let ColumnBuilder {
+            cells,
+            checked,
+            passes_digits: _,
+        } = self;
         match checked {
             Some(_) => Ok(None),
             None => Ok(Some(cells.finish()?)),

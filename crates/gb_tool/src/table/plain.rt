@@ -11,12 +11,12 @@ ghost use Rattle.gb_defs.specs.Column.{rechunked};
 ghost use Rattle.gb_defs.specs.Table.{table};
 ghost use Rattle.gb_tool.specs.Asked.{asked_table, names_in};
 ghost use Rattle.gb_tool.specs.Building.{IsRoomy};
-ghost use Rattle.gb_tool.specs.Plain.{BeginsWith, TakesLine};
+ghost use Rattle.gb_tool.specs.Plain.{BeginsWith, TakesFront, TakesLine};
 ghost use Rattle.gb_tool.specs.Refusal.{IsRefusedTable};
 
 use crate::status::TableError;
 use crate::table::builder::ColumnBuilder;
-use crate::table::cell::cell_of;
+use crate::table::cell::{cell_of, digits_cell};
 use crate::table::frame_of;
 use crate::table::lines::Lines;
 use csv::ByteRecord;
@@ -44,6 +44,37 @@ fn plain_header(alloc: Global, text: &[u8]) -> Result<Option<(ByteRecord, &[u8])
     Err(AllocError)
 }
 
+// Puts the cell in front of a text at the end of a column, and gives the text behind it, and whether its
+// record ends there. None where it is not plain or does not read. Digits are not looked at twice where a
+// column passes them.
+#[inline(always)]
+fn push_front<'a>(
+    column: &mut ColumnBuilder,
+    text: &'a [u8],
+    ascii: bool,
+    null_word: &str,
+    room: &mut Vec<u8>,
+) -> Result<Option<(&'a [u8], bool)>, AllocError>
+    requires room { IsRoomy column.old }
+    requires ascii { ascii ≡ true → IsAscii text.now }
+    ensures { IfOk result (λ found. IfSome found (λ end.
+        TakesFront null_word.now column.old column.new text.now end.0.now end.1)) }
+{
+    if column.passes_digits() {
+        if let Some((_cell, rest, last)) = digits_cell(text) {
+            column.pass_digits();
+            return Ok(Some((rest, last)));
+        }
+    }
+    let Some((cell, rest, last)) = cell_of(text, room)? else {
+        return Ok(None);
+    };
+    if !column.push_cell(cell, ascii, null_word)? {
+        return Ok(None);
+    }
+    Ok(Some((rest, last)))
+}
+
 /// Puts the cells of the record in front of a text at the ends of the columns, and gives the text behind
 /// it. None where it is not plain, has not a cell for each column, or a cell does not read. The room is
 /// for cells that do not stand in the text as they are.
@@ -66,12 +97,9 @@ pub fn push_line<'a>(
         if ended {
             return Ok(None);
         }
-        let Some((cell, rest, last)) = cell_of(left, room)? else {
+        let Some((rest, last)) = push_front(column, left, ascii, null_word, room)? else {
             return Ok(None);
         };
-        if !column.push_cell(cell, ascii, null_word)? {
-            return Ok(None);
-        }
         left = rest;
         ended = last;
     }

@@ -134,7 +134,7 @@ fn tables_and_faults(rt: HostRuntime) -> Result<(), Fail> {
 #[test]
 fn columns_that_are_asked(rt: HostRuntime) -> Result<(), Fail> {
     let alloc = rt.alloc();
-    let cases: [(&[u8], &[&str], Result<&str, TableFault>); 9] = [
+    let cases: [(&[u8], &[&str], Result<&str, TableFault>); 15] = [
         (
             b"a,b:i64,c:cat\nx,1,y\n\xC3\xA9,,\n",
             &["b"],
@@ -164,6 +164,37 @@ fn columns_that_are_asked(rt: HostRuntime) -> Result<(), Fail> {
             b"a,b:i64\n\"x\",1\ny,x\n",
             &["a"],
             Err(TableFault::BadCell(2, 2)),
+        ),
+        // Digits that are passed over, and such that are not.
+        (
+            b"k,v:i64,d:u64\nx,123456789012345,007\ny,9223372036854775807,1234567890123456\n",
+            &["k"],
+            Ok("k|x|y;"),
+        ),
+        (
+            b"k,v:i64\nx,12\r\n\ny,-5\nz,+5\n,\n\"q\",\"8\"\nlonger than a word,9",
+            &["k"],
+            Ok("k|x|y|z|null|q|longer than a word;"),
+        ),
+        (
+            b"k,v:i64,c\nx,12e,and some bytes more\n",
+            &["k"],
+            Err(TableFault::BadCell(1, 2)),
+        ),
+        (
+            b"k,v:i64,c\nx,9223372036854775808,and some bytes more\n",
+            &["k"],
+            Err(TableFault::BadCell(1, 2)),
+        ),
+        (
+            b"k,v:i32,c\nx,9999999999,and some bytes more\n",
+            &["k"],
+            Err(TableFault::BadCell(1, 2)),
+        ),
+        (
+            b"k,v:i64,c\nx,1,and some bytes more\nx,2\nx,3,and some bytes more\n",
+            &["k"],
+            Err(TableFault::Ragged(2, 2, 3)),
         ),
     ];
     for (text, names, want) in cases {

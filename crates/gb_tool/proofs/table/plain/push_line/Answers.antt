@@ -1,8 +1,7 @@
 use Rattle.std.proofs.Common.{◌≢◌, ◌∙◌, ◌<◌, length, get_or, refl, sym, arith, [], ◌++◌, ◌∷◌}
 use Rattle.std.proofs.lemmas.List.{get_or_default, get_or-set_other, length-set}
-use Rattle.std.proofs.lemmas.Str.{IsUtf8-from_ascii}
 use Rattle.csv.specs.declared.parser.State.TheVariants as st
-use Rattle.gb_tool.proofs.PlainLemmas.{behind_more, cell_ascii, goes_here, rest_ascii}
+use Rattle.gb_tool.proofs.PlainLemmas.{behind_more, goes_here, rest_ascii}
 use Rattle.gb_tool.proofs.PushLemmas.{passing_none, passing_more, passing_all}
 use Rattle.gb_tool.proofs.table.plain.push_line.Goals as goal
 
@@ -19,13 +18,11 @@ loop-column-init c = record {
   behind = record { count = 0; is = refl };
 }
 
-pub push_cell-requires-clause-room : goal.push_cell-requires-clause-room
-push_cell-requires-clause-room c = c.loop-column.invariant.roomy c.loop-column.column-index c.column-item.result (omega arith) (omega arith)
+pub push_front-requires-clause-room : goal.push_front-requires-clause-room
+push_front-requires-clause-room c = c.loop-column.invariant.roomy c.loop-column.column-index c.column-item.result (omega arith) (omega arith)
 
-pub push_cell-requires-clause-is_text : goal.push_cell-requires-clause-is_text
-push_cell-requires-clause-is_text c = λ ascii.
-    let cut = rw c.in-Some.is at c.in_ok-cell.ensures in
-    IsUtf8-from_ascii _ (cell_ascii c.loop-column.left.now c.in-Some.cell.now c.in-Some.rest.now c.in-Some.last cut (c.loop-column.invariant.is_ascii ascii))
+pub push_front-requires-clause-ascii : goal.push_front-requires-clause-ascii
+push_front-requires-clause-ascii c = c.loop-column.invariant.is_ascii
 
 pub loop-column-preserved : goal.loop-column-preserved
 loop-column-preserved c =
@@ -33,22 +30,22 @@ loop-column-preserved c =
     let now = c.loop-column.columns in
     let column = get_or now c.loop-column.column-index c.column-item.result in
     let lt : c.loop-column.column-index < length now = omega arith in
-    let good = rw c.if-not-branch.false at c.in_ok-push_cell.ensures.ok in
     let read = rw c.if-ended.false at s.read in
-    let cut = rw c.in-Some.is at c.in_ok-cell.ensures in
+    let front = rw c.in-Some.is at c.in_ok-rest.ensures in
+    let cut = front.cut in
     record {
-      done = s.done ++ c.in-Some.cell.now ∷ [];
+      done = s.done ++ front.cell ∷ [];
       state = cut.state;
       left = cut.left;
       read = read ∙ cut.reads s.done;
       goes_on = cut.goes_on;
       passing = passing_more c.args.null_word.now c.args.columns.now s.done
-          c.loop-column.column-index now s.passing column c.in-Some.cell.now lt (get_or_default now c.loop-column.column-index c.column-item.result column lt) c.push_cell.new.self (sym good);
+          c.loop-column.column-index now s.passing column front.cell lt (get_or_default now c.loop-column.column-index c.column-item.result column lt) c.push_front.new.column (sym front.builds);
       roomy = λ k d low high.
           let other : k ≢ c.loop-column.column-index = omega (arith, low) in
-          let below : k < length now = omega (arith, high, length-set now c.loop-column.column-index c.push_cell.new.self) in
-          rw (get_or-set_other now c.loop-column.column-index k c.push_cell.new.self d other) (s.roomy k d (omega (arith, low)) below);
-      is_ascii = λ ascii. rest_ascii c.loop-column.left.now c.in-Some.cell.now c.in-Some.rest.now c.in-Some.last cut (s.is_ascii ascii);
+          let below : k < length now = omega (arith, high, length-set now c.loop-column.column-index c.push_front.new.column) in
+          rw (get_or-set_other now c.loop-column.column-index k c.push_front.new.column d other) (s.roomy k d (omega (arith, low)) below);
+      is_ascii = λ ascii. rest_ascii c.loop-column.left.now front.cell c.in-Some.rest.now c.in-Some.last cut (s.is_ascii ascii);
       behind = behind_more c.args.text.now c.loop-column.left.now c.in-Some.rest.now s.behind cut.behind;
     }
 
