@@ -1,26 +1,32 @@
 -- The columns of a frame, one after the other.
 use Rattle.std.proofs.Common.{◌≡◌, ℕ, zero, suc, ◌+◌, ◌-◌, ◌<◌, ◌≤◌, ℤ, Bool, true, false, cond, List, [], ◌∷◌, length, map, get_or, drop, Option, Some, refl, sym, ◌∙◌, ap, arith, eq-eqb, eqb-true}
-use Rattle.std.specs.Prelude.{min, slice_get, ◌==◌}
+use Rattle.std.specs.Prelude.{min, pos, slice_get, ◌==◌}
 use Rattle.std.specs.Str.{bytes_eq}
 use Rattle.std.proofs.lemmas.List.{drop_more, length-drop, length-map, length-take}
 use Rattle.gb_defs.specs.Column.{ColumnValue, Frame, IsFrame, all_have_length, find_column, first_repeated, frame_height, names_of}
 use Rattle.gb_defs.specs.Column.{rechunked, sliced, taken}
 use Rattle.gb_defs.specs.Slices.{slice_end, slice_start}
 use Rattle.gb_series.specs.Frame.{IsSmallFrame}
+use Rattle.gb_series.specs.Series.{part_at}
 
 -- ---- lengths
 
 long_yes : (n : ℕ) (c : ColumnValue) (cs : Frame) → length c.slots ≡ n → all_have_length n (c ∷ cs) ≡ all_have_length n cs
 long_yes n c cs e = ap (λ b. cond b (all_have_length n cs) false) (eq-eqb (length c.slots) n e)
 
-long_first : (test rest : Bool) → cond test rest false ≡ true → (test ≡ true) × (rest ≡ true)
-long_first true rest e = (refl, e)
-long_first false rest e = cc
+pub both_true : (test rest : Bool) → cond test rest false ≡ true → (test ≡ true) × (rest ≡ true)
+both_true true rest e = (refl, e)
+both_true false rest e = cc
+
+pub long_test : (n : ℕ) (c : ColumnValue) (cs : Frame) → all_have_length n (c ∷ cs) ≡ true → (length c.slots ≡ n) × (all_have_length n cs ≡ true)
+long_test n c cs e =
+    let parts = both_true (length c.slots == n) (all_have_length n cs) e in
+    (eqb-true (length c.slots) n parts.0, parts.1)
 
 pub long_at : (n : ℕ) (frame : Frame) (i : ℕ) (d : ColumnValue) → all_have_length n frame ≡ true → i < length frame → length (get_or frame i d).slots ≡ n
 long_at n [] i d e lt = absurd (omega arith)
-long_at n (c ∷ cs) zero d e lt = eqb-true (length c.slots) n (long_first (length c.slots == n) (all_have_length n cs) e).0
-long_at n (c ∷ cs) (suc i) d e lt = long_at n cs i d (long_first (length c.slots == n) (all_have_length n cs) e).1 (omega arith)
+long_at n (c ∷ cs) zero d e lt = eqb-true (length c.slots) n (both_true (length c.slots == n) (all_have_length n cs) e).0
+long_at n (c ∷ cs) (suc i) d e lt = long_at n cs i d (both_true (length c.slots == n) (all_have_length n cs) e).1 (omega arith)
 
 -- ---- names
 
@@ -37,7 +43,7 @@ found_step n false x c rest e later found = later found
 pub found_long : (n : ℕ) (frame : Frame) (name : List ℕ) (c : ColumnValue) → all_have_length n frame ≡ true → find_column frame name ≡ Some c → length c.slots ≡ n
 found_long n [] name c long found = cc
 found_long n (x ∷ xs) name c long found =
-    let parts = long_first (length x.slots == n) (all_have_length n xs) long in
+    let parts = both_true (length x.slots == n) (all_have_length n xs) long in
     found_step n (bytes_eq x.name name) x c (find_column xs name) (eqb-true (length x.slots) n parts.0) (found_long n xs name c parts.1) found
 
 -- ---- columns as they are stored
@@ -88,7 +94,7 @@ module _ (f : ColumnValue → ColumnValue) (h : ℕ → ℕ) (named : (c : Colum
   mapped_long : (n : ℕ) (frame : Frame) → all_have_length n frame ≡ true → all_have_length (h n) (map f frame) ≡ true
   mapped_long n [] all = refl
   mapped_long n (c ∷ cs) all =
-      let parts = long_first (length c.slots == n) (all_have_length n cs) all in
+      let parts = both_true (length c.slots == n) (all_have_length n cs) all in
       long_yes (h n) (f c) (map f cs) (long c ∙ ap h (eqb-true (length c.slots) n parts.0)) ∙ mapped_long n cs parts.1
 
   mapped_aligned : (frame : Frame) → all_have_length (frame_height frame) frame ≡ true → all_have_length (frame_height (map f frame)) (map f frame) ≡ true
@@ -109,15 +115,18 @@ module _ (f : ColumnValue → ColumnValue) (h : ℕ → ℕ) (named : (c : Colum
   }
 
 -- how many of so many rows a slice shows
-abbrev count_shown : ℤ → ℕ → ℕ → ℕ
+abbrev pub count_shown : ℤ → ℕ → ℕ → ℕ
 count_shown offset len n = min (slice_end n offset len - slice_start n offset) (n - slice_start n offset)
 
-sliced_long : (offset : ℤ) (len : ℕ) (c : ColumnValue) → length (sliced offset len c).slots ≡ count_shown offset len (length c.slots)
+pub sliced_long : (offset : ℤ) (len : ℕ) (c : ColumnValue) → length (sliced offset len c).slots ≡ count_shown offset len (length c.slots)
 sliced_long offset len c =
     length-take _ (drop (slice_start (length c.slots) offset) c.slots) ∙ ap (min (slice_end (length c.slots) offset len - slice_start (length c.slots) offset)) (length-drop (slice_start (length c.slots) offset) c.slots)
 
 pub sliced_small : (offset : ℤ) (len : ℕ) (frame : Frame) → IsSmallFrame frame → IsSmallFrame (map (sliced offset len) frame)
 sliced_small offset len frame = mapped_small (sliced offset len) (count_shown offset len) (λ c. refl) (sliced_long offset len) frame (λ n. omega arith)
+
+pub part_small : (start len : ℕ) (frame : Frame) → IsSmallFrame frame → IsSmallFrame (map (part_at start len) frame)
+part_small start len frame = mapped_small (part_at start len) (count_shown (pos start) len) (λ c. refl) (sliced_long (pos start) len) frame (λ n. omega arith)
 
 pub rechunked_small : (frame : Frame) → IsSmallFrame frame → IsSmallFrame (map rechunked frame)
 rechunked_small frame = mapped_small rechunked (λ n. n) (λ c. refl) (λ c. refl) frame (λ n. omega arith)

@@ -1,3 +1,4 @@
+pub mod ChunkLemmas
 pub mod ColumnLemmas
 pub mod FrameLemmas
 pub mod NameLemmas

@@ -28,10 +28,14 @@ value_of (Binary c) = c
 value_of (BinaryOffset c) = c
 value_of (Categorical c) = c
 
--- parts of these lengths, one after the other from a place on, with no flag
+-- so many rows from a row on, with no flag
+abbrev pub part_at : ℕ → ℕ → ColumnValue → ColumnValue
+part_at start len column = flagged NotSorted (sliced (pos start) len column)
+
+-- parts of these lengths, one after the other from a row on
 abbrev pub cut_at : ColumnValue → ℕ → List ℕ → List ColumnValue
 cut_at column start [] = []
-cut_at column start (len ∷ lens) = flagged NotSorted (sliced (pos start) len column) ∷ cut_at column (start + len) lens
+cut_at column start (len ∷ lens) = part_at start len column ∷ cut_at column (start + len) lens
 
 -- a series of the type is made by the type alone: of all but categories, whose texts make it, and nested
 -- types today; a decimal type has its scale

@@ -1,12 +1,13 @@
 //! Frames of columns.
 
-ghost use Rattle.std.specs.Prelude.{[], ◌≡◌, ◌==◌, ℕ, ◌<◌, ◌^◌, length, map, None, Some, IfOk, IfErr, OnOk, IfSome, IfNone, All, option_map, slice_get};
+ghost use Rattle.std.specs.Prelude.{[], ◌≡◌, ◌==◌, ℕ, ◌<◌, ◌^◌, length, map, sum, None, Some, IfOk, IfErr, OnOk, IfSome, IfNone, All, option_map, slice_get};
 ghost use Rattle.gb_defs.specs.Column.{all_have_length as are_all_long, find_column, first_repeated, frame_height, names_of, IsFrame};
 ghost use Rattle.gb_base.specs.PlSmallStr.{name_of, IsNoMemory};
 ghost use Rattle.gb_base.specs.PolarsError.{Explains};
 ghost use Rattle.gb_series.specs.Frame.{are_aligned, are_all_chunked, first_missing, missing_column};
 ghost use Rattle.gb_series.specs.Series.{value_of};
 
+use crate::flatten::part_of;
 use crate::series::{Column, Series};
 use gb_base::error::{PolarsError, PolarsResult};
 use gb_base::nullable_idx::IdxSize;
@@ -38,8 +39,8 @@ impl Model for DataFrame {
 }
 
 impl DataFrame {
-    ghost use Rattle.gb_series.specs.Frame.{are_aligned, frame_fault, missing_column, select_fault};
-    ghost use Rattle.gb_series.specs.Series.{value_of};
+    ghost use Rattle.gb_series.specs.Frame.{are_aligned, frame_chunks, frame_fault, missing_column, select_fault};
+    ghost use Rattle.gb_series.specs.Series.{part_at, value_of};
     ghost use Rattle.gb_defs.specs.Column.{rechunked, sliced, taken};
 
     /// The frame of no columns. It takes no memory.
@@ -178,6 +179,35 @@ impl DataFrame {
         ensures err { IfErr result IsNoMemory }
     {
         have_equal_chunks(&self.columns)
+    }
+
+    // The lengths of the first column's chunks, none without columns.
+    pub(crate) fn chunk_lengths(&self) -> PolarsResult<Vec<usize>>
+        ensures ok { IfOk result (λ lengths. lengths.items ≡ frame_chunks self.now) }
+        ensures sum { sum (frame_chunks self.now) ≡ frame_height self.now }
+        ensures err { IfErr result IsNoMemory }
+    {
+        match self.columns.first() {
+            Some(column) => {
+                // It tells that the chunks are all rows.
+                let _ = column.len();
+                column.chunk_lengths()
+            }
+            None => Ok(Vec::new(*self.columns.allocator())),
+        }
+    }
+
+    // So many rows from a row on, with no flags. Copies them.
+    pub(crate) fn part(&self, start: usize, len: usize) -> PolarsResult<DataFrame>
+        requires { start < 2 ^ 63 }
+        ensures ok { IfOk result (λ f. f ≡ map (part_at start len) self.now) }
+        ensures err { IfErr result IsNoMemory }
+    {
+        let mut columns = Vec::with_capacity(*self.columns.allocator(), self.columns.len())?;
+        for column in &self.columns {
+            columns.push(part_of(column, start, len)?)?;
+        }
+        Ok(DataFrame { columns })
     }
 
     /// Copies of the columns of these names, in the order of the names. The names are looked at before

@@ -1,7 +1,10 @@
 //! Each public call of the crate once. A check pays for each value that a function may let go, and a series
 //! may hold any type: so a function owns one series at most, and others look at it.
 
-use crate::flatten::flatten_series;
+ghost use Rattle.std.specs.Prelude.{◌≡◌, true};
+ghost use Rattle.gb_series.specs.Frame.{are_aligned};
+
+use crate::flatten::{flatten_df_iter, flatten_series};
 use crate::frame::DataFrame;
 use crate::series::{Column, IntoSeries, Series};
 use gb_base::any_value::AnyValue;
@@ -185,12 +188,16 @@ fn two_columns_are_one(rt: HostRuntime) -> Result<(), Fail> {
     Ok(())
 }
 
-// The column with the flag for ascending slots, where they ascend.
-fn flagged(alloc: Global, values: &[i64]) -> PolarsResult<Series> {
-    let mut column = numbers(alloc, "a", values)?;
+// Sets the flag for ascending slots, where they ascend.
+fn flag_ascending(column: &mut Series) {
     if column.check_sorted(IsSorted::Ascending) {
         column.set_sorted_flag(IsSorted::Ascending);
     }
+}
+
+fn flagged(alloc: Global, values: &[i64]) -> PolarsResult<Series> {
+    let mut column = numbers(alloc, "a", values)?;
+    flag_ascending(&mut column);
     Ok(column)
 }
 
@@ -361,5 +368,85 @@ fn is_mismatch(made: PolarsResult<DataFrame>) -> bool {
 fn frames_refused(rt: HostRuntime) -> Result<(), Fail> {
     assert!(rt; is_duplicate(frame_of(rt.alloc(), "a", &[3])));
     assert!(rt; is_mismatch(frame_of(rt.alloc(), "b", &[3])));
+    Ok(())
+}
+
+// ---- the chunks of frames
+
+// Puts a copy of a short column's first rows behind it, in one chunk.
+fn append_rows(column: &mut Series, count: usize) -> PolarsResult<()> {
+    let rows = column.slice(0, count)?;
+    if column.len() > 9 || rows.len() > 9 {
+        return Ok(());
+    }
+    column.append(rows)
+}
+
+// Puts an empty chunk and the first two rows again behind a column, and sets its flag.
+fn append_chunks(column: &mut Series) -> PolarsResult<()> {
+    append_rows(column, 0)?;
+    append_rows(column, 2)?;
+    flag_ascending(column);
+    Ok(())
+}
+
+fn in_three_chunks(alloc: Global, name: &str, value: i64) -> PolarsResult<Series> {
+    let mut column = numbers(alloc, name, &[value, value])?;
+    append_chunks(&mut column)?;
+    Ok(column)
+}
+
+fn chunked_frame(alloc: Global) -> PolarsResult<DataFrame> {
+    let mut columns = Vec::with_capacity(alloc, 2)?;
+    columns.push(in_three_chunks(alloc, "a", 7)?)?;
+    columns.push(in_three_chunks(alloc, "b", 8)?)?;
+    DataFrame::new(columns)
+}
+
+fn is_ascending_in_three(column: &Series) -> bool {
+    column.n_chunks() == 3 && column.is_sorted_ascending_flag()
+}
+
+fn is_plain_chunk(column: &Series) -> bool {
+    column.n_chunks() == 1 && !column.is_sorted_any()
+}
+
+// Whether the chunks of a frame that have rows are so high, and each is a frame in one chunk with no flags.
+fn has_chunks(frame: &DataFrame, heights: &[usize]) -> bool
+    requires { are_aligned frame.now ≡ true }
+{
+    let Ok(parts) = flatten_df_iter(frame) else {
+        return false;
+    };
+    let mut left = heights;
+    for part in parts {
+        let Some((height, later)) = left.split_first() else {
+            return false;
+        };
+        let is_next = holds_of_frame(part, |part| {
+            part.height() == *height && part.get_columns().iter().all(is_plain_chunk)
+        });
+        if !is_next {
+            return false;
+        }
+        left = later;
+    }
+    left.is_empty()
+}
+
+// The same of any frame, where its columns are chunked alike.
+fn is_cut_into(frame: &DataFrame, heights: &[usize]) -> bool {
+    match frame.is_aligned() {
+        Ok(aligned) => aligned && has_chunks(frame, heights),
+        Err(_) => false,
+    }
+}
+
+#[test]
+fn a_frame_by_chunks(rt: HostRuntime) -> Result<(), Fail> {
+    let alloc = rt.alloc();
+    assert!(rt; holds_of(in_three_chunks(alloc, "a", 7), is_ascending_in_three));
+    assert!(rt; holds_of_frame(chunked_frame(alloc), |frame| is_cut_into(frame, &[2, 2])));
+    assert!(rt; is_cut_into(&DataFrame::empty(alloc), &[]));
     Ok(())
 }
