@@ -1,0 +1,12 @@
+//! Slots of columns compared, whatever their type.
+#![tactic(auto)]
+
+pub mod categories;
+pub mod columns;
+pub mod inner;
+pub mod layout;
+pub mod null_order;
+pub mod series;
+#[cfg(test)]
+mod tests;
+pub mod total_ord;
