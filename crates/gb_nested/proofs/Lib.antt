@@ -1,0 +1,5 @@
+pub mod ListLemmas
+pub mod PieceLemmas
+pub mod RowLemmas
+pub mod TextLemmas
+pub mod ArrayLemmas

@@ -1,0 +1,21 @@
+use Rattle.std.proofs.Common.{◌∙◌, ap, ◌++◌, ◌∷◌, [], false}
+use Rattle.gb_cols.specs.Column.{pushed}
+use Rattle.gb_defs.specs.Slot.{Nil}
+use Rattle.gb_series.specs.Series.{value_of}
+use Rattle.gb_nested.proofs.ListLemmas.{listed_null, null_pushed}
+use Rattle.gb_nested.proofs.list.ListChunked.put_null.Goals as goal
+
+pub invariant_of-self-2 : goal.invariant_of-self-2
+invariant_of-self-2 c =
+    let in_self = c.self.inside in
+    let flags = c.push_reserved.ensures.items ∙ ap (λ xs. xs ++ false ∷ []) c.in_ok-reserve.ensures.items in
+    let ends = c.push_reserved-2.ensures.items ∙ ap (λ xs. xs ++ c.len-end.result ∷ []) c.in_ok-reserve-2.ensures.items in
+    listed_null in_self.rows in_self.present.items in_self.ends.items (value_of in_self.items) c.self.invariant _ _ _ _ c.len-end.ensures.value c.in-Ok.ensures.ok flags ends
+
+pub returns-clause-ok : goal.returns-clause-ok
+returns-clause-ok c =
+    let in_self = c.self.inside in
+    let flags = c.push_reserved.ensures.items ∙ ap (λ xs. xs ++ false ∷ []) c.in_ok-reserve.ensures.items in
+    let ends = c.push_reserved-2.ensures.items ∙ ap (λ xs. xs ++ c.len-end.result ∷ []) c.in_ok-reserve-2.ensures.items in
+    null_pushed in_self.rows in_self.present.items in_self.ends.items (value_of in_self.items) c.self.invariant _ _ _ _ c.len-end.ensures.value c.in-Ok.ensures.ok flags ends
+    ∙ ap (λ v. pushed v Nil) c.self.view_is

@@ -1,0 +1,4 @@
+pub mod Rows
+pub mod Series
+pub mod Text
+pub mod Arrays
