@@ -1,6 +1,7 @@
 pub mod CellLemmas
 pub mod ChunkedLemmas
 pub mod CopyLemmas
+pub mod KeptLemmas
 pub mod KeyLemmas
 pub mod NullLemmas
 pub mod NullSliceLemmas

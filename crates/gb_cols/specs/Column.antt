@@ -1,5 +1,5 @@
 -- The column that chunks make, and what a push and an append do to it.
-use Rattle.std.specs.Prelude.{◌≡◌, ℕ, ◌+◌, ◌<◌, ◌^◌, Bool, List, [], ◌∷◌, ◌++◌, map, length, true, false, Option, None, Some, option_map}
+use Rattle.std.specs.Prelude.{◌≡◌, ℕ, ◌+◌, ◌<◌, ◌^◌, Bool, List, [], ◌∷◌, ◌++◌, map, length, sum, take, false, Option, None, Some, option_map}
 use Rattle.std.specs.List.{flat_map}
 use Rattle.gb_defs.specs.Cell.{cell_slot}
 use Rattle.gb_defs.specs.CellText.{cell_text}
@@ -37,6 +37,12 @@ pushed c slot = record { name = c.name; dtype = c.dtype; slots = c.slots ++ slot
 -- the column with another's slots and chunks behind its own, and no flag
 abbrev pub appended : ColumnValue → ColumnValue → ColumnValue
 appended c other = record { name = c.name; dtype = c.dtype; slots = c.slots ++ other.slots; chunks = c.chunks ++ other.chunks; sorted = NotSorted; all_used = false }
+
+-- the first chunks of a column, so many, with no flag
+abbrev pub first_chunks : ℕ → ColumnValue → ColumnValue
+first_chunks count c =
+    let kept = take count c.chunks in
+    record { name = c.name; dtype = c.dtype; slots = take (sum kept) c.slots; chunks = kept; sorted = NotSorted; all_used = false }
 
 -- the column with no flag
 abbrev pub unflagged : ColumnValue → ColumnValue

@@ -10,6 +10,7 @@ ghost use Rattle.gb_values.specs.SlotOrder.{last_slot, later_slot};
 use crate::primitive::UInt32Chunked;
 use crate::series_trait::SeriesTrait;
 use crate::slices::{pop_chunk, push_part, slice_bounds};
+use crate::undo_append::UndoAppend;
 use gb_base::data_type::{DataType, IsSorted};
 use gb_base::error::{PolarsError, PolarsResult};
 use gb_base::nullable_idx::IdxSize;
@@ -277,6 +278,28 @@ impl<V: Values> SeriesTrait for ChunkedArray<V> {
         let repeated = self.repeated(i, len)?;
         let name = self.name.try_clone()?;
         Ok(ChunkedArray::from_chunk(self.allocator(), name, repeated))
+    }
+}
+
+impl<V: Values> UndoAppend for ChunkedArray<V> {
+    ghost use Rattle.std.specs.Prelude.{◌≡◌, false, true};
+    ghost use Rattle.gb_defs.specs.Column.{UsesAll};
+
+    fn uses_all(&self) -> bool
+        ensures value { result ≡ self.now.all_used }
+        ensures holds { result ≡ true → UsesAll self.now.dtype self.now.slots }
+        ensures never { result ≡ false }
+    {
+        let _ = &self.name;
+        false
+    }
+
+    fn keep_chunks(&mut self, count: usize) {
+        self.sorted = IsSorted::Not;
+        if count <= self.earlier.len() {
+            self.earlier.truncate(count);
+            self.last = pop_chunk(&mut self.earlier);
+        }
     }
 }
 

@@ -12,4 +12,5 @@ pub mod series_trait;
 mod slices;
 #[cfg(test)]
 mod tests;
+pub mod undo_append;
 pub mod utf8;

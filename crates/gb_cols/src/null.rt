@@ -7,6 +7,7 @@ ghost use Rattle.gb_cols.specs.Null.{AreNulls, counted_part};
 
 use crate::series_trait::SeriesTrait;
 use crate::slices::slice_bounds;
+use crate::undo_append::UndoAppend;
 use gb_base::data_type::{DataType, IsSorted};
 use gb_base::error::{PolarsError, PolarsResult};
 use gb_base::nullable_idx::IdxSize;
@@ -251,6 +252,20 @@ impl SeriesTrait for NullChunked {
     fn new_from_index(&self, _i: usize, len: usize) -> PolarsResult<Self> {
         let name = self.name.try_clone()?;
         Ok(NullChunked::new(self.allocator(), name, len))
+    }
+}
+
+impl UndoAppend for NullChunked {
+    fn uses_all(&self) -> bool {
+        let _ = &self.name;
+        false
+    }
+
+    fn keep_chunks(&mut self, count: usize) {
+        if count <= self.earlier.len() {
+            self.earlier.truncate(count);
+            self.last = pop_count(&mut self.earlier);
+        }
     }
 }
 

@@ -62,8 +62,10 @@ pub trait SeriesTrait: Drop {
         self.null_count() > 0
     }
 
+    /// One at least.
     fn n_chunks(&self) -> usize
-        ensures { result ≡ length (value self.now).chunks };
+        ensures value { result ≡ length (value self.now).chunks }
+        ensures some { 0 < result };
 
     fn chunk_lengths(&self) -> PolarsResult<Vec<usize>>
         ensures ok { IfOk result (λ lengths. lengths.items ≡ (value self.now).chunks) }

@@ -8,6 +8,7 @@ use crate::chunked::StringChunked;
 use crate::null::NullChunked;
 use crate::primitive::{Int8Chunked, Int32Chunked, Int64Chunked, Int128Chunked, UInt32Chunked};
 use crate::series_trait::SeriesTrait;
+use crate::undo_append::UndoAppend;
 use gb_base::data_type::{DataType, IsSorted};
 use gb_base::error::PolarsResult;
 use gb_base::small_str::PlSmallStr;
@@ -114,6 +115,8 @@ fn nulls_have_no_value(rt: HostRuntime) -> Result<(), Fail> {
     column.append(NullChunked::new(alloc, name_of(alloc)?, 2))?;
     assert_eq!(rt; column.len(), 3);
     assert!(rt; column.get(2).is_none());
+    column.keep_chunks(1);
+    assert_eq!(rt; column.len(), 1);
     Ok(())
 }
 

@@ -26,6 +26,7 @@ use gb_base::small_str::PlSmallStr;
 use gb_cols::chunked::StringChunked;
 use gb_cols::primitive::UInt32Chunked;
 use gb_cols::series_trait::SeriesTrait;
+use gb_cols::undo_append::UndoAppend;
 use gb_numbers::numeric::UInt32Type;
 use gb_values::nullable::NullableArray;
 use gb_values::primitive::PrimitiveArray;
@@ -354,5 +355,16 @@ impl SeriesTrait for CategoricalChunked {
             is_enum: self.is_enum,
             all_used: false,
         })
+    }
+}
+
+impl UndoAppend for CategoricalChunked {
+    fn uses_all(&self) -> bool {
+        self.all_used
+    }
+
+    fn keep_chunks(&mut self, count: usize) {
+        self.physical.keep_chunks(count);
+        self.all_used = false;
     }
 }

@@ -32,6 +32,7 @@ use gb_base::nullable_idx::IdxSize;
 use gb_base::small_str::PlSmallStr;
 use gb_cols::chunked::ChunkedArray;
 use gb_cols::series_trait::SeriesTrait;
+use gb_cols::undo_append::UndoAppend;
 use gb_numbers::numeric::PolarsNumericType;
 use gb_values::primitive::NumberValues;
 use gb_values::slot_order::SlotOrder;
@@ -292,5 +293,15 @@ impl<K: LogicalKind> SeriesTrait for Logical<K> {
             physical: self.physical.new_from_index(i, len)?,
             kind: self.kind,
         })
+    }
+}
+
+impl<K: LogicalKind> UndoAppend for Logical<K> {
+    fn uses_all(&self) -> bool {
+        self.physical.uses_all()
+    }
+
+    fn keep_chunks(&mut self, count: usize) {
+        self.physical.keep_chunks(count)
     }
 }

@@ -11,7 +11,7 @@ use Rattle.gb_series.specs.Series.{part_at}
 
 -- ---- lengths
 
-long_yes : (n : ℕ) (c : ColumnValue) (cs : Frame) → length c.slots ≡ n → all_have_length n (c ∷ cs) ≡ all_have_length n cs
+pub long_yes : (n : ℕ) (c : ColumnValue) (cs : Frame) → length c.slots ≡ n → all_have_length n (c ∷ cs) ≡ all_have_length n cs
 long_yes n c cs e = ap (λ b. cond b (all_have_length n cs) false) (eq-eqb (length c.slots) n e)
 
 pub both_true : (test rest : Bool) → cond test rest false ≡ true → (test ≡ true) × (rest ≡ true)

@@ -1,3 +1,4 @@
+pub mod Append
 pub mod Frame
 pub mod Series
 pub mod Value

@@ -1,12 +1,14 @@
 //! Frames of columns.
 
-ghost use Rattle.std.specs.Prelude.{[], ◌≡◌, ◌==◌, ℕ, ◌<◌, ◌^◌, length, map, sum, None, Some, IfOk, IfErr, OnOk, IfSome, IfNone, All, option_map, slice_get};
+ghost use Rattle.std.specs.Prelude.{[], ◌≡◌, ◌==◌, ℕ, ◌+◌, ◌<◌, ◌^◌, length, map, sum, None, Some, IfOk, IfErr, OnOk, OnErr, IfSome, IfNone, All, option_map, slice_get};
 ghost use Rattle.gb_defs.specs.Column.{all_have_length as are_all_long, find_column, first_repeated, frame_height, names_of, IsFrame};
 ghost use Rattle.gb_base.specs.PlSmallStr.{name_of, IsNoMemory};
 ghost use Rattle.gb_base.specs.PolarsError.{Explains};
+ghost use Rattle.gb_series.specs.Append.{append_fault, appended_frame};
 ghost use Rattle.gb_series.specs.Frame.{are_aligned, are_all_chunked, first_missing, missing_column};
 ghost use Rattle.gb_series.specs.Series.{value_of};
 
+use crate::append::{append_all, refuse_unlike};
 use crate::flatten::part_of;
 use crate::series::{Column, Series};
 use gb_base::error::{PolarsError, PolarsResult};
@@ -208,6 +210,20 @@ impl DataFrame {
             columns.push(part_of(column, start, len)?)?;
         }
         Ok(DataFrame { columns })
+    }
+
+    /// Puts the rows of another frame behind these, as chunks of their own: no cell is copied. The other's
+    /// columns have these names and types, in this order.
+    pub fn append_chunk(&mut self, other: DataFrame) -> PolarsResult<()>
+        requires { frame_height self.old + frame_height other < 2 ^ 63 }
+        ensures ok { OnOk result (self.new ≡ appended_frame self.old other) }
+        ensures sound { OnOk result (append_fault self.old other ≡ None) }
+        ensures err { IfErr result (λ e. Explains e (append_fault self.old other)) }
+        ensures unchanged { OnErr result (self.new ≡ self.old) }
+    {
+        refuse_unlike(&self.columns, &other.columns)?;
+        let DataFrame { columns } = other;
+        append_all(&mut self.columns, columns)
     }
 
     /// Copies of the columns of these names, in the order of the names. The names are looked at before

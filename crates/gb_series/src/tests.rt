@@ -450,3 +450,77 @@ fn a_frame_by_chunks(rt: HostRuntime) -> Result<(), Fail> {
     assert!(rt; is_cut_into(&DataFrame::empty(alloc), &[]));
     Ok(())
 }
+
+// ---- frames behind frames
+
+// A frame of one column.
+fn frame_with(alloc: Global, column: Series) -> PolarsResult<DataFrame> {
+    let mut columns = Vec::with_capacity(alloc, 1)?;
+    columns.push(column)?;
+    DataFrame::new(columns)
+}
+
+fn temperatures(alloc: Global, values: &[i64]) -> PolarsResult<DataFrame> {
+    frame_with(alloc, numbers(alloc, "temp", values)?)
+}
+
+fn temperature_texts(alloc: Global) -> PolarsResult<DataFrame> {
+    let name = PlSmallStr::from_str(alloc, "temp")?;
+    frame_with(alloc, StringChunked::new(alloc, name).into_series())
+}
+
+// Puts a low frame behind a low frame.
+fn append_low(frame: &mut DataFrame, other: DataFrame) -> PolarsResult<()> {
+    if frame.height() > 9 || other.height() > 9 {
+        return Ok(());
+    }
+    frame.append_chunk(other)
+}
+
+fn appended(mut frame: DataFrame, other: PolarsResult<DataFrame>) -> PolarsResult<DataFrame> {
+    append_low(&mut frame, other?)?;
+    Ok(frame)
+}
+
+fn rows_behind(alloc: Global) -> PolarsResult<DataFrame> {
+    appended(temperatures(alloc, &[7, 8])?, temperatures(alloc, &[9]))
+}
+
+fn texts_behind(alloc: Global) -> PolarsResult<DataFrame> {
+    appended(temperatures(alloc, &[7, 8])?, temperature_texts(alloc))
+}
+
+fn wider_behind(alloc: Global) -> PolarsResult<DataFrame> {
+    appended(
+        temperatures(alloc, &[7, 8])?,
+        frame_of(alloc, "temp", &[3, 4]),
+    )
+}
+
+fn is_other_type(made: PolarsResult<DataFrame>, name: &str) -> bool {
+    match made {
+        Err(PolarsError::SchemaMismatch(found)) => found.as_str() == name,
+        _ => false,
+    }
+}
+
+fn is_three_in_two(frame: &DataFrame) -> bool {
+    frame.height() == 3
+        && frame
+            .get_columns()
+            .iter()
+            .all(|column| column.n_chunks() == 2)
+}
+
+#[test]
+fn rows_behind_rows(rt: HostRuntime) -> Result<(), Fail> {
+    assert!(rt; holds_of_frame(rows_behind(rt.alloc()), is_three_in_two));
+    Ok(())
+}
+
+#[test]
+fn frames_not_appended(rt: HostRuntime) -> Result<(), Fail> {
+    assert!(rt; is_other_type(texts_behind(rt.alloc()), "temp"));
+    assert!(rt; is_mismatch(wider_behind(rt.alloc())));
+    Ok(())
+}
