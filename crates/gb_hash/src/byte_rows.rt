@@ -7,8 +7,9 @@ ghost use Rattle.gb_defs.specs.Hash.{hash_of};
 ghost use Rattle.gb_values.specs.Array.{text_slot};
 ghost use Rattle.gb_hash.specs.Keys.{texts_decide, slots_alike};
 
-use crate::dirty_hash::{Mixer, hash_null, hash_text};
+use crate::dirty_hash::Mixer;
 use crate::key_rows::{KeyRows, Steps};
+use crate::row_mixer::RowMixer;
 use gb_cols::chunked::StringChunked;
 use gb_cols::series_trait::SeriesTrait;
 use std::sync::ledger::Ledger;
@@ -17,7 +18,7 @@ use std::sync::ledger::Ledger;
 #[derive(Drop)]
 pub struct ByteRows<'a, M: Mixer> {
     pub column: &'a StringChunked,
-    pub mixer: M,
+    pub mixer: RowMixer<M>,
 }
 
 impl<'a, M: Mixer> ByteRows<'a, M> {
@@ -25,6 +26,7 @@ impl<'a, M: Mixer> ByteRows<'a, M> {
         ensures column { result.column.now ≡ column.now }
         ensures mixer { result.mixer ≡ mixer }
     {
+        let mixer = RowMixer::new(mixer);
         ByteRows { column, mixer }
     }
 }
@@ -56,12 +58,12 @@ impl<'a, M: Mixer + Sync> KeyRows for ByteRows<'a, M> {
 
 // The hash of a text, or that of null.
 #[inline]
-fn hash_option<M: Mixer>(mixer: &M, text: Option<&str>) -> u64
+fn hash_option<M: Mixer>(mixer: &RowMixer<M>, text: Option<&str>) -> u64
     ensures { result ≡ hash_of w64 (M.seed_of mixer.now) (M.mix_of mixer.now)
         (text_slot text.entry) }
 {
     match text {
-        None => hash_null(mixer),
-        Some(text) => hash_text(mixer, text.as_bytes()),
+        None => mixer.hash_null(),
+        Some(text) => mixer.hash_text(text.as_bytes()),
     }
 }

@@ -9,8 +9,8 @@ ghost use Rattle.gb_defs.specs.Hash.{folded_multiply as folded, boost_combine, p
 pub fn folded_multiply(a: u64, b: u64) -> u64
     ensures { result ≡ folded a b }
 {
-    let high = (a as u128 * b as u128) >> 64;
-    a.wrapping_mul(b) ^ high as u64
+    let product = a as u128 * b as u128;
+    (product % (1 << 64)) as u64 ^ (product >> 64) as u64
 }
 
 /// The hash of a row with one more column: the hash so far, and the hash of the column.

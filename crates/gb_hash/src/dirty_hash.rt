@@ -118,7 +118,15 @@ impl<N: Native> DirtyHash for N {
 pub fn hash_text<M: Mixer>(mixer: &M, bytes: &[u8]) -> u64
     ensures { result ≡ hash_bytes (M.seed_of mixer.now) (M.mix_of mixer.now) bytes.now }
 {
-    let mut hash = hash_null(mixer);
+    hash_text_behind(mixer, hash_null(mixer), bytes)
+}
+
+/// The same where the hash of null is known.
+pub fn hash_text_behind<M: Mixer>(mixer: &M, null: u64, bytes: &[u8]) -> u64
+    requires { null ≡ null_hash (M.seed_of mixer.now) (M.mix_of mixer.now) }
+    ensures { result ≡ hash_bytes (M.seed_of mixer.now) (M.mix_of mixer.now) bytes.now }
+{
+    let mut hash = null;
     let mut rest = bytes;
     while let Some((word, after)) = rest.split_first_chunk::<8>() {
         hash = with_word(mixer, hash, u64::from_le_bytes(*word));

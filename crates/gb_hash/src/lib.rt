@@ -13,6 +13,7 @@ pub mod id_hasher;
 pub mod key_rows;
 pub mod list_rows;
 pub mod num_rows;
+pub mod row_mixer;
 pub mod slice_rows;
 #[cfg(test)]
 mod tests;

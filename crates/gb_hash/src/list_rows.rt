@@ -11,8 +11,9 @@ ghost use Rattle.gb_values.specs.Keys.{bytes_slot, key_slot};
 ghost use Rattle.gb_numbers.specs.Native.{Decides-pos};
 ghost use Rattle.gb_hash.specs.Keys.{bytes_decide, numbers_decide, plain_bytes_decide, slots_alike};
 
-use crate::dirty_hash::{Mixer, hash_null, hash_of_halves, hash_text, with_word};
+use crate::dirty_hash::{Mixer, hash_of_halves, with_word};
 use crate::key_rows::{KeyRows, Steps};
+use crate::row_mixer::RowMixer;
 use gb_values::nullable::Values;
 use gb_values::utf8::TextValues;
 use std::alloc::{AllocError, Global};
@@ -28,7 +29,7 @@ pub trait RowKey: Copy + Eq + Hash {
     // The width of the numbers.
     ghost width: { Width };
 
-    fn hash_key<M: Mixer>(&self, mixer: &M) -> u64
+    fn hash_key<M: Mixer>(&self, mixer: &RowMixer<M>) -> u64
         ensures { result ≡ hash_of width (M.seed_of mixer.now) (M.mix_of mixer.now)
             (slot self.now) };
 
@@ -44,10 +45,10 @@ impl RowKey for Option<u64> {
     ghost decide = { numbers_decide nat_eq (λ n. pos n) Decides-pos };
 
     #[inline]
-    fn hash_key<M: Mixer>(&self, mixer: &M) -> u64 {
+    fn hash_key<M: Mixer>(&self, mixer: &RowMixer<M>) -> u64 {
         match *self {
-            None => hash_null(mixer),
-            Some(word) => with_word(mixer, mixer.seed(), word),
+            None => mixer.hash_null(),
+            Some(word) => with_word(mixer.mixer(), mixer.mixer().seed(), word),
         }
     }
 }
@@ -60,10 +61,10 @@ impl RowKey for Option<u128> {
     ghost decide = { numbers_decide nat_eq (λ n. pos n) Decides-pos };
 
     #[inline]
-    fn hash_key<M: Mixer>(&self, mixer: &M) -> u64 {
+    fn hash_key<M: Mixer>(&self, mixer: &RowMixer<M>) -> u64 {
         match *self {
-            None => hash_null(mixer),
-            Some(bits) => hash_of_halves(mixer, bits),
+            None => mixer.hash_null(),
+            Some(bits) => hash_of_halves(mixer.mixer(), bits),
         }
     }
 }
@@ -76,10 +77,10 @@ impl<'a> RowKey for Option<&'a [u8]> {
     ghost decide = { bytes_decide };
 
     #[inline]
-    fn hash_key<M: Mixer>(&self, mixer: &M) -> u64 {
+    fn hash_key<M: Mixer>(&self, mixer: &RowMixer<M>) -> u64 {
         match *self {
-            None => hash_null(mixer),
-            Some(bytes) => hash_text(mixer, bytes),
+            None => mixer.hash_null(),
+            Some(bytes) => mixer.hash_text(bytes),
         }
     }
 }
@@ -88,7 +89,7 @@ impl<'a> RowKey for Option<&'a [u8]> {
 #[derive(Drop)]
 pub struct ListRows<'a, K: RowKey, M: Mixer> {
     pub keys: &'a [K],
-    pub mixer: M,
+    pub mixer: RowMixer<M>,
 }
 
 impl<'a, K: RowKey, M: Mixer> ListRows<'a, K, M> {
@@ -96,6 +97,7 @@ impl<'a, K: RowKey, M: Mixer> ListRows<'a, K, M> {
         ensures keys { result.keys.now ≡ keys.now }
         ensures mixer { result.mixer ≡ mixer }
     {
+        let mixer = RowMixer::new(mixer);
         ListRows { keys, mixer }
     }
 }
@@ -199,7 +201,7 @@ fn chunk_start(ends: &[usize], at: usize) -> usize
 #[derive(Drop)]
 pub struct TextRows<'r, 'a, M: Mixer> {
     pub texts: &'r TextChunks<'a>,
-    pub mixer: M,
+    pub mixer: RowMixer<M>,
 }
 
 impl<'r, 'a, M: Mixer> TextRows<'r, 'a, M> {
@@ -207,6 +209,7 @@ impl<'r, 'a, M: Mixer> TextRows<'r, 'a, M> {
         ensures texts { result.texts.now ≡ texts.now }
         ensures mixer { result.mixer ≡ mixer }
     {
+        let mixer = RowMixer::new(mixer);
         TextRows { texts, mixer }
     }
 }
@@ -232,6 +235,6 @@ impl<'r, 'a, M: Mixer + Sync> KeyRows for TextRows<'r, 'a, M> {
     }
 
     fn hash_at(&self, i: usize) -> u64 {
-        hash_text(&self.mixer, self.texts.get(i).as_bytes())
+        self.mixer.hash_text(self.texts.get(i).as_bytes())
     }
 }

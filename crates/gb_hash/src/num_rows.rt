@@ -6,8 +6,9 @@ ghost use Rattle.gb_defs.specs.Hash.{hash_of};
 ghost use Rattle.gb_values.specs.Array.{native_slot};
 ghost use Rattle.gb_hash.specs.Keys.{numbers_decide, slots_alike};
 
-use crate::dirty_hash::{DirtyHash, Mixer, hash_null};
+use crate::dirty_hash::{DirtyHash, Mixer};
 use crate::key_rows::{KeyRows, Steps};
+use crate::row_mixer::RowMixer;
 use gb_cols::chunked::ChunkedArray;
 use gb_cols::series_trait::SeriesTrait;
 use gb_numbers::numeric::{Native, PolarsNumericType};
@@ -18,7 +19,7 @@ use std::sync::ledger::Ledger;
 #[derive(Drop)]
 pub struct NumRows<'a, T: PolarsNumericType, M: Mixer> {
     pub column: &'a ChunkedArray<NumberValues<T>>,
-    pub mixer: M,
+    pub mixer: RowMixer<M>,
 }
 
 impl<'a, T: PolarsNumericType, M: Mixer> NumRows<'a, T, M> {
@@ -26,6 +27,7 @@ impl<'a, T: PolarsNumericType, M: Mixer> NumRows<'a, T, M> {
         ensures column { result.column.now ≡ column.now }
         ensures mixer { result.mixer ≡ mixer }
     {
+        let mixer = RowMixer::new(mixer);
         NumRows { column, mixer }
     }
 }
@@ -60,12 +62,12 @@ where
 
 // The hash of a number, or that of null.
 #[inline]
-fn hash_option<N: Native, M: Mixer>(mixer: &M, number: Option<N>) -> u64
+fn hash_option<N: Native, M: Mixer>(mixer: &RowMixer<M>, number: Option<N>) -> u64
     ensures { let slot = native_slot N.number number in
         result ≡ hash_of N.width (M.seed_of mixer.now) (M.mix_of mixer.now) slot }
 {
     match number {
-        None => hash_null(mixer),
-        Some(number) => number.dirty_hash(mixer),
+        None => mixer.hash_null(),
+        Some(number) => number.dirty_hash(mixer.mixer()),
     }
 }

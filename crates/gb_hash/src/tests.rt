@@ -1,5 +1,5 @@
 use crate::combine::{_boost_hash_combine, folded_multiply, hash_to_partition};
-use crate::dirty_hash::{DirtyHash, Mixer, PlSeedableRandomStateQuality, SeedMixer};
+use crate::dirty_hash::{DirtyHash, Mixer, PlSeedableRandomStateQuality, SeedMixer, hash_text};
 use crate::id_hasher::IdHasher;
 use gb_numbers::numeric::Native;
 use std::test::Fail;
@@ -81,5 +81,12 @@ fn numbers_with_a_sign(rt: HostRuntime) -> Result<(), Fail> {
     assert_eq!(rt; (hash_of(-1i8), hash_of(-1i16)), (minus_one, minus_one));
     assert_eq!(rt; (hash_of(-1i32), hash_of(-1i64)), (minus_one, minus_one));
     assert_eq!(rt; hash_of(-1i128), 490528790413895549);
+    Ok(())
+}
+
+#[test]
+fn texts(rt: HostRuntime) -> Result<(), Fail> {
+    let hash = hash_text(&SeedMixer::new(7), "a".as_bytes());
+    assert_eq!(rt; hash, 5147673060945396342);
     Ok(())
 }

@@ -2,11 +2,11 @@ use Rattle.std.proofs.Common.{arith, ap, ◌∙◌, length}
 use Rattle.std.specs.List.{fold}
 use Rattle.gb_defs.specs.Hash.{null_hash, hash_bytes, fold_word, words_of}
 use Rattle.gb_hash.proofs.ByteLemmas.{fold_more}
-use Rattle.gb_hash.proofs.dirty_hash.hash_text.Goals as goal
+use Rattle.gb_hash.proofs.dirty_hash.hash_text_behind.Goals as goal
 
 pub loop-word-init : goal.loop-word-init
 loop-word-init g c =
-    ap (λ hash. fold (fold_word (g.M.Mixer.mix_of c.args.mixer.now)) hash (words_of c.args.bytes.now)) c.hash_null-hash.ensures
+    ap (λ hash. fold (fold_word (g.M.Mixer.mix_of c.args.mixer.now)) hash (words_of c.args.bytes.now)) c.requires
 
 pub loop-word-smaller : goal.loop-word-smaller
 loop-word-smaller g c =

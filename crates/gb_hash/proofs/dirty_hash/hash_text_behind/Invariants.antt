@@ -1,7 +1,7 @@
 use Rattle.std.proofs.Common.{◌≡◌, length}
 use Rattle.std.specs.List.{fold}
 use Rattle.gb_defs.specs.Hash.{null_hash, fold_word, words_of}
-use Rattle.gb_hash.proofs.dirty_hash.hash_text.Given as goal
+use Rattle.gb_hash.proofs.dirty_hash.hash_text_behind.Given as goal
 
 abbrev pub invariant-loop-word : goal.invariant-loop-word
 invariant-loop-word g l =
