@@ -1,23 +1,23 @@
 -- Rows that ascend: all rows, those that pass a test, and one more at their end.
-use Rattle.std.proofs.Common.{◌≡◌, ℕ, zero, suc, ◌+◌, ◌<◌, ◌≤◌, Bool, List, [], ◌∷◌, length, get_or, map, filter, take, All, refl, ◌∙◌, ap, arith, eqb, inl, inr}
+use Rattle.std.proofs.Common.{◌≡◌, ℕ, zero, suc, ◌+◌, ◌<◌, ◌≤◌, Bool, List, [], ◌∷◌, ◌++◌, length, get_or, set, map, filter, take, All, refl, sym, ◌∙◌, ap, arith, eqb, inl, inr}
 use Rattle.std.specs.List.{range_with_len, AllByRecursion}
 use Rattle.std.specs.List.Sorted.{IsStrictlyIncreasing}
-use Rattle.std.proofs.lemmas.List.{get_or-map, length-map}
-use Rattle.std.proofs.lemmas.List.Elements.{All-filter, All-map, All-from_recursion, recursion_from_All}
+use Rattle.std.proofs.lemmas.List.{get_or-map, length-map, map-append, take_all, take_more}
+use Rattle.std.proofs.lemmas.List.Elements.{All-filter, All-map, All-more, All-from_recursion, recursion_from_All}
 use Rattle.std.proofs.lemmas.Bool.{cases_Bool}
 use Rattle.std.proofs.lemmas.Simd.{map-map}
-use Rattle.std.proofs.lemmas.List.FromFn.{get_or-range_with_len, length-range_with_len}
+use Rattle.std.proofs.lemmas.List.FromFn.{fill_by_all, get_or-range_with_len, length-range_with_len}
 use Rattle.std.proofs.lemmas.List.Kept.{AllPairs-from_increasing, IsStrictlyIncreasing-filter}
 use Rattle.gb_defs.specs.Classes.{rows_below}
 use Rattle.gb_defs.specs.Groups.{AreMembers}
 use Rattle.gb_defs.specs.Hash.{partition_of}
 use Rattle.gb_defs.specs.Partitions.{in_partition}
 use Rattle.gb_defs.proofs.ClassesLemmas.{rows_below_all}
-use Rattle.gb_paths.specs.Numbers.{lists_by, rows_of}
-use Rattle.gb_paths.specs.Partitions.{AreWithin, rows_by_partition}
+use Rattle.gb_paths.specs.Numbers.{count_of, counts_by, lists_by, rows_of}
+use Rattle.gb_paths.specs.Partitions.{AreWithin, partitions_by, rows_by_partition}
 use Rattle.smallvec.specs.SmallVec.{SmallVec}
 use Rattle.gb_groups.specs.Groups.{lists_of}
-use Rattle.gb_paths.proofs.NumberLemmas.{map_range_same, rows_by}
+use Rattle.gb_paths.proofs.NumberLemmas.{count_more, map_range_same, rows_by}
 
 pub all_members : (n : ℕ) → AreMembers n (rows_below n)
 all_members n = record {
@@ -99,6 +99,28 @@ partition_lists hash n rows hashes numbers hashed numbered =
     let whole : numbers ≡ map (λ row. partition_of (hash row) n) rows = numbered ∙ ap (map (λ h. partition_of h n)) hashed ∙ map-map (λ h. partition_of h n) hash rows in
     map_range_same (rows_of rows numbers) (λ p. filter (in_partition hash n p) rows) n [] (λ p lt. ap (λ ns. rows_of rows ns p) whole ∙ rows_by (λ row. partition_of (hash row) n) rows p)
 
+-- the partition of one hash more
+partitions_more : (n i p : ℕ) (hashes : List ℕ) → i < length hashes → p ≡ partition_of (get_or hashes i 0) n → partitions_by n (take (i + 1) hashes) ≡ partitions_by n (take i hashes) ++ p ∷ []
+partitions_more n i p hashes lt is =
+    ap (partitions_by n) (take_more hashes i 0 lt) ∙ map-append (λ h. partition_of h n) (take i hashes) (get_or hashes i 0 ∷ [])
+    ∙ ap (λ q. partitions_by n (take i hashes) ++ q ∷ []) (sym is)
+
+-- the partition of one hash more is counted
+pub partition_counted : (n i p : ℕ) (hashes counts : List ℕ) → i < length hashes → p ≡ partition_of (get_or hashes i 0) n → p < length counts →
+    ((k : ℕ) → get_or counts k 0 ≡ count_of (partitions_by n (take i hashes)) k) →
+    (k : ℕ) → get_or (set counts p (get_or counts p 0 + 1)) k 0 ≡ count_of (partitions_by n (take (i + 1) hashes)) k
+partition_counted n i p hashes counts lt is inside f k = count_more (partitions_by n (take i hashes)) p counts inside f k ∙ ap (λ ns. count_of ns k) (sym (partitions_more n i p hashes lt is))
+
+-- one hash more is within the partitions
+pub within_more : (n i p : ℕ) (hashes : List ℕ) → i < length hashes → p ≡ partition_of (get_or hashes i 0) n → p < n → AreWithin n (take i hashes) → AreWithin n (take (i + 1) hashes)
+within_more n i p hashes lt is below within = All-more (λ h. partition_of h n < n) hashes i 0 lt within (rw (← is) below)
+
+-- the counts of the partitions of all hashes
+pub partitions_counted : (n i : ℕ) (hashes counts : List ℕ) → length hashes ≤ i → ((k : ℕ) → get_or counts k 0 ≡ count_of (partitions_by n (take i hashes)) k) →
+    counts ≡ counts_by (partitions_by n hashes) (length counts)
+partitions_counted n i hashes counts all f =
+    fill_by_all (count_of (partitions_by n hashes)) counts (length counts) 0 refl (λ k lt. f k ∙ ap (λ hs. count_of (partitions_by n hs) k) (take_all i hashes all))
+
 -- a part of the rows, in their order
 picked_pairs : (numbers : List ℕ) (k : ℕ) (rows : List ℕ) → ByPairs rows → ByPairs (rows_of rows numbers k)
 unfolding rows_of
@@ -117,12 +139,6 @@ picked_members n numbers k rows m = record {
 
 pub listed_members : (n : ℕ) (rows numbers : List ℕ) (groups : ℕ) → AreMembers n rows → All (AreMembers n) (lists_by rows numbers groups)
 listed_members n rows numbers groups m = All-map (AreMembers n) (rows_of rows numbers) (range_with_len 0 groups) (λ k d lt. picked_members n numbers (get_or (range_with_len 0 groups) k d) rows m)
-
-pub within_from : (n : ℕ) (hashes numbers : List ℕ) → numbers ≡ map (λ h. partition_of h n) hashes → All (λ number. number < n) numbers → AreWithin n hashes
-within_from n hashes numbers numbered below k d lt =
-    let place : k < length numbers = omega (arith, ap length numbered, length-map hashes (λ h. partition_of h n), lt) in
-    let at : get_or numbers k 0 ≡ partition_of (get_or hashes k d) n = ap (λ ns. get_or ns k 0) numbered ∙ get_or-map (λ h. partition_of h n) hashes k d 0 lt in
-    rw (← at) (below k 0 place)
 
 -- what holds of the lists holds of one of them
 pub list_at : (P : List ℕ → Type 0) (lists : List (SmallVec ℕ)) → All P (lists_of lists) → (k : ℕ) (d : SmallVec ℕ) → k < length lists → P (get_or lists k d).items

@@ -111,6 +111,19 @@ filled_all rows numbers n lists each all f =
 pub counted_all : (numbers : List ℕ) (n : ℕ) (counts : List ℕ) → length numbers ≤ n → ((k : ℕ) → get_or counts k 0 ≡ count_of (take n numbers) k) → counts ≡ counts_by numbers (length counts)
 counted_all numbers n counts all f = fill_by_all (count_of numbers) counts (length counts) 0 refl (λ k lt. f k ∙ ap (λ ns. count_of ns k) (take_all n numbers all))
 
+-- one number more is counted
+pub count_more : (numbers : List ℕ) (number : ℕ) (counts : List ℕ) → number < length counts → ((k : ℕ) → get_or counts k 0 ≡ count_of numbers k) →
+    (k : ℕ) → get_or (set counts number (get_or counts number 0 + 1)) k 0 ≡ count_of (numbers ++ number ∷ []) k
+count_more numbers number counts inside f k = elim (cases_eq k number) [
+  | inl here ↦
+      let own : count_of (numbers ++ number ∷ []) number ≡ count_of numbers number + 1 = sum_by_push (one_if number) numbers number ∙ rw (eq-eqb number number refl) in
+      rw (here, get_or-set_same counts number (get_or counts number 0 + 1) 0 inside, f number, own)
+  | inr away ↦
+      let other : eqb number k ≡ false = ne_eqb number k (λ h. away (sym h)) in
+      let kept : count_of (numbers ++ number ∷ []) k ≡ count_of numbers k + 0 = sum_by_push (one_if k) numbers number ∙ rw other in
+      get_or-set_other counts number k (get_or counts number 0 + 1) 0 away ∙ omega (arith, f k, kept)
+]
+
 -- what a vector holds after a write of all its elements
 pub refilled : {A : Type 0} (n : ℕ) (new old : List A) → length new ≡ n → take n (new ++ old) ≡ new
 refilled n new old long = take-append-le n new old (omega (arith, long)) ∙ take_all n new (omega (arith, long))

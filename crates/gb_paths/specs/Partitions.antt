@@ -18,6 +18,10 @@ pub record HasRows (rows : Rows) (start n : ℕ) : Type 0 where
 abbrev pub AreWithin : ℕ → List ℕ → Type 0
 AreWithin n hashes = All (λ h. partition_of h n < n) hashes
 
+-- the partition of each hash
+abbrev pub partitions_by : ℕ → List ℕ → List ℕ
+partitions_by n hashes = map (λ h. partition_of h n) hashes
+
 -- the rows of each of n partitions
 abbrev pub rows_by_partition : (ℕ → ℕ) → ℕ → List ℕ → List (List ℕ)
 rows_by_partition hash n rows = map (λ p. filter (in_partition hash n p) rows) (range_with_len 0 n)

@@ -129,7 +129,7 @@ fn count_rows(counts: &mut [IdxSize], numbers: &[u32])
 }
 
 // A list for each count, empty.
-fn empty_lists(alloc: Global, counts: &[IdxSize]) -> Result<Vec<IdxVec>, AllocError>
+pub(crate) fn empty_lists(alloc: Global, counts: &[IdxSize]) -> Result<Vec<IdxVec>, AllocError>
     ensures { IfOk result (λ lists. AllZip IsRoomFor counts.now lists.items) }
 {
     let mut lists = Vec::with_capacity(alloc, counts.len())?;

@@ -1,19 +1,19 @@
 //! Groups by a table for each partition of the hashes. The partitions are dealt to the workers, each of
 //! which takes its own one after another.
 
-ghost use Rattle.std.specs.Prelude.{◌≡◌, ◌+◌, ◌<◌, ◌≤◌, ◌^◌, All, map, length, take, drop, IfOk, IfErr, OnOk};
+ghost use Rattle.std.specs.Prelude.{◌≡◌, ℕ, ◌+◌, ◌<◌, ◌≤◌, All, map, length, take, drop, IfOk, IfErr, OnOk, slice_index};
+ghost use Rattle.std.specs.List.{AllZip};
 ghost use Rattle.gb_defs.specs.Classes.{rows_below};
 ghost use Rattle.gb_defs.specs.Groups.{AreMembers, HasRowNumbers, IsWellFormed};
-ghost use Rattle.gb_defs.specs.Hash.{partition_of};
 ghost use Rattle.gb_defs.specs.Rows.{AreHashes, Rows, hashed_groups, rows_of_slots};
 ghost use Rattle.gb_base.specs.PlSmallStr.{IsNoMemory};
 ghost use Rattle.gb_groups.specs.Groups.{lists_of, pairs_of};
 ghost use Rattle.gb_groups.specs.GroupsType.{groups_of};
 ghost use Rattle.gb_hash.specs.Keys.{key_slots};
-ghost use Rattle.gb_paths.specs.Numbers.{groups_among};
-ghost use Rattle.gb_paths.specs.Partitions.{AreListed, AreWithin, groups_of_lists, groups_of_parts, rows_by_partition};
+ghost use Rattle.gb_paths.specs.Numbers.{IsRoomFor, counts_by, groups_among, lists_by};
+ghost use Rattle.gb_paths.specs.Partitions.{AreListed, AreWithin, groups_of_lists, groups_of_parts, partitions_by, rows_by_partition};
 
-use crate::row_groups::{all_rows, group_members, row_lists};
+use crate::row_groups::{empty_lists, group_members};
 use crate::row_hashes::hash_rows_par;
 use gb_base::device::Gate;
 use gb_base::error::{PolarsError, PolarsResult};
@@ -104,24 +104,53 @@ fn partition_rows(alloc: Global, hashes: &[u64], n_partitions: usize) -> PolarsR
     if n_partitions > u32::MAX as usize {
         return Err(PolarsError::NoMemory);
     }
-    let numbers = partition_numbers(alloc, hashes, n_partitions)?;
-    let rows = all_rows(alloc, hashes.len())?;
-    Ok(row_lists(alloc, rows.as_slice(), numbers.as_slice(), n_partitions)?)
+    let counts = partition_counts(alloc, hashes, n_partitions)?;
+    let mut lists = empty_lists(alloc, counts.as_slice())?;
+    fill_partitions(lists.as_mut_slice(), hashes);
+    Ok(lists)
 }
 
-// The partition of each hash.
-fn partition_numbers(alloc: Global, hashes: &[u64], n: usize) -> Result<Vec<u32>, AllocError>
+// How many hashes each partition has.
+fn partition_counts(alloc: Global, hashes: &[u64], n: usize) -> Result<Vec<IdxSize>, AllocError>
     requires some { 1 ≤ n }
-    requires few { n < 2 ^ 32 }
-    ensures numbers { IfOk result (λ numbers.
-        numbers.items ≡ map (λ h. partition_of h n) hashes.now) }
-    ensures below { IfOk result (λ numbers. All (λ number. number < n) numbers.items) }
+    requires few { HasRowNumbers (length hashes.now) }
+    ensures counts { IfOk result (λ counts.
+        counts.items ≡ counts_by (partitions_by n hashes.now) n) }
+    ensures within { OnOk result (AreWithin n hashes.now) }
 {
-    let mut numbers = Vec::with_capacity(alloc, hashes.len())?;
+    let mut counts = vec![in alloc; 0 as IdxSize; n]?;
+    count_partitions(counts.as_mut_slice(), hashes);
+    Ok(counts)
+}
+
+// Adds one to a partition's count for each of its hashes.
+fn count_partitions(counts: &mut [IdxSize], hashes: &[u64])
+    requires some { 1 ≤ length counts.old }
+    requires few { HasRowNumbers (length hashes.now) }
+    requires zero { (k : ℕ) → slice_index counts.old k ≡ 0 }
+    ensures counts { let n = length counts.old in
+        counts.new ≡ counts_by (partitions_by n hashes.now) n }
+    ensures within { AreWithin (length counts.old) hashes.now }
+{
+    let n = counts.len();
     for hash in hashes {
-        numbers.push_reserved(hash_to_partition(*hash, n) as u32);
+        counts[hash_to_partition(*hash, n)] += 1;
     }
-    Ok(numbers)
+}
+
+// Puts each row into the list of its hash's partition.
+fn fill_partitions(lists: &mut [IdxVec], hashes: &[u64])
+    requires some { 1 ≤ length lists.old }
+    requires few { HasRowNumbers (length hashes.now) }
+    requires room { let n = length lists.old in
+        AllZip IsRoomFor (counts_by (partitions_by n hashes.now) n) lists.old }
+    ensures { let n = length lists.old in lists_of lists.new
+        ≡ lists_by (rows_below (length hashes.now)) (partitions_by n hashes.now) n }
+{
+    let n = lists.len();
+    for (row, hash) in hashes.iter().enumerate() {
+        lists[hash_to_partition(*hash, n)].push_reserved(row as IdxSize);
+    }
 }
 
 // The groups of each partition, in order. Each worker has some partitions that follow each other, and
