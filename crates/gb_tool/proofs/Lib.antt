@@ -1,11 +1,13 @@
 pub mod AggLemmas
 pub mod AskedLemmas
 pub mod BuilderLemmas
+pub mod BuiltLemmas
 pub mod CauseLemmas
 pub mod CellLemmas
 pub mod ChunkLemmas
 pub mod DeviceLemmas
 pub mod DigitsLemmas
+pub mod ExtendLemmas
 pub mod FoldingLemmas
 pub mod GroupingLemmas
 pub mod HeadLemmas
@@ -20,6 +22,7 @@ pub mod ReadingLemmas
 pub mod RecordLemmas
 pub mod ReportLemmas
 pub mod RunLemmas
+pub mod StreamLemmas
 pub mod TableLemmas
 pub mod TakingLemmas
 pub mod TextLemmas

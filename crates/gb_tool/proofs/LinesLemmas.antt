@@ -1,9 +1,8 @@
 -- Lines of a part of a text in the columns of a header: one line more, and parts that are joined.
 use Rattle.std.proofs.Common.{◌≡◌, ◌≢◌, ℕ, ◌+◌, ◌-◌, ◌<◌, ◌≤◌, suc, ◌⊎◌, Bool, inl, inr, List, [], ◌∷◌, ◌++◌, append_assoc, length, map, get_or, set, take, drop, refl, sym, ◌∙◌, ap, arith, Ok, All}
-use Rattle.std.specs.List.{AllByRecursion, filter_map}
 use Rattle.std.proofs.lemmas.Bool.{cases_lt}
 use Rattle.std.proofs.lemmas.List.{append-nil, drop_all, drop_more, drop-set-lt, length-drop, length-map, map-append, take_all, take_more_set}
-use Rattle.std.proofs.lemmas.List.Elements.{All-from_recursion, recursion_from_All}
+use Rattle.std.proofs.lemmas.List.Elements.{All-from_recursion}
 use Rattle.csv.specs.declared.parser.Config.{Config}
 use Rattle.csv.specs.declared.parser.State.{State}
 use Rattle.csv.specs.declared.parser.State.TheVariants as st
@@ -14,11 +13,12 @@ use Rattle.gb_defs.specs.Column.{fresh_column}
 use Rattle.gb_defs.specs.Slot.{Slot, slot_at}
 use Rattle.gb_defs.specs.Table.{Head, heads_of, onto, record_slots, row_onto, rows_from, slots_of_column}
 use Rattle.gb_tool.specs.Asked.{is_asked}
-use Rattle.gb_tool.specs.Building.{Building, IsRoomy, IsWhole, in_one_chunk, kept_slot, read_if_kept}
+use Rattle.gb_tool.specs.Building.{Building, IsRoomy, in_one_chunk, kept_slot}
 use Rattle.gb_tool.specs.Part.{HasFew, IsPart, emptied, joined, joined_to}
 use Rattle.gb_tool.specs.Plain.{GoesOn, IsBehind, TakesLine}
 use Rattle.gb_tool.specs.Table.{built_from, built_of, columns_of_header, head_in, taken_each}
-use Rattle.gb_tool.proofs.PlainLemmas.{begins, blank, goes_here}
+use Rattle.gb_tool.proofs.BuiltLemmas.{all_back, one_built}
+use Rattle.gb_tool.proofs.PlainLemmas.{begins, blank, goes_here, goes_same}
 use Rattle.gb_tool.proofs.ReadingLemmas.{ok_parts}
 use Rattle.gb_tool.proofs.RecordLemmas.{records_few}
 use Rattle.gb_tool.proofs.TableLemmas.{columns_more, few_columns, heads_in_built, record_length, roomy_columns, row_parts, rows_length, rows_more, slots_any}
@@ -38,30 +38,8 @@ behind_at text left to b within long =
 
 -- ---- columns and their chunks
 
--- what holds of each column, however its slots are cut into chunks
-pub all_back : (P : Building → Type 0) → ((b : Building) → P (in_one_chunk b) → P b) → (bs : List Building) → All P (map in_one_chunk bs) → All P bs
-all_back P back bs h = All-from_recursion P bs (each bs (recursion_from_All P (map in_one_chunk bs) h))
-  where
-    each : (cs : List Building) → AllByRecursion P (map in_one_chunk cs) → AllByRecursion P cs
-    each [] h = tt
-    each (c ∷ cs) h = (back c h.0, each cs h.1)
-
-kept_same : (b : Building) → read_if_kept (in_one_chunk b) ≡ read_if_kept b
-kept_same b = refl
-
-pub read_same : (bs : List Building) → filter_map read_if_kept (map in_one_chunk bs) ≡ filter_map read_if_kept bs
-read_same [] = refl
-read_same (b ∷ bs) = rw (kept_same b, read_same bs) refl
-
-pub whole_back : (bs : List Building) → All IsWhole (map in_one_chunk bs) → All IsWhole bs
-whole_back bs h = all_back IsWhole (λ b w. record { fresh = w.fresh; few = w.few }) bs h
-
 pub few_back : (bs : List Building) → All HasFew (map in_one_chunk bs) → All HasFew bs
 few_back bs h = all_back HasFew (λ b few. few) bs h
-
-one_built : (asked : List ℕ → Bool) (k : ℕ) (heads : List Head) (rows : List (List Slot)) → map in_one_chunk (built_from asked k heads rows) ≡ built_from asked k heads rows
-one_built asked k [] rows = refl
-one_built asked k (head ∷ heads) rows = ap (λ bs. built_of (asked head.name) head (slots_of_column k rows) ∷ bs) (one_built asked (suc k) heads rows)
 
 emptied_built : (asked : List ℕ → Bool) (k : ℕ) (heads : List Head) (rows : List (List Slot)) → map emptied (built_from asked k heads rows) ≡ built_from asked k heads []
 emptied_built asked k [] rows = refl
@@ -113,10 +91,13 @@ module _ (xs mid rest : List ℕ) (rows : List (List (List ℕ))) (s t : State) 
     state = s;
     left = ys;
     reached = rw (append-nil rows) r;
-    goes_on = record { same = first.same ∙ (rw (← q.0, ← q.1) at second.same) };
+    goes_on = record {
+      always = λ m. first.always m ∙ (let same = second.always m in rw (← q.0, ← q.1) at same);
+      some = λ h. first.some (let k = second.some h in rw (← q.1) at k);
+    };
   }
   reached_both (row ∷ more) q second =
-      let here : Reached default_config s ys (row ∷ more) t zs = (q.0, first.same ∙ q.1, q.2, q.3) in
+      let here : Reached default_config s ys (row ∷ more) t zs = (q.0, goes_same s ys mid first ∙ q.1, q.2, q.3) in
       record { state = t; left = zs; reached = reached_join default_config st.StartRecord s t xs ys zs rows (row ∷ more) r here; goes_on = second }
 
 rows_join : (null_word : List ℕ) (heads : List Head) (row : ℕ) (rows more : List (List (List ℕ))) (ahead behind : List (List Slot)) → rows_from null_word row heads rows ≡ Ok ahead
@@ -150,7 +131,7 @@ module _ (names : List (List ℕ)) (null_word : List ℕ) (header : List (List �
           state = t.begins.state;
           left = t.begins.left;
           heads_are = now.heads_are;
-          reached = reached-more default_config st.StartRecord now.state text now.left now.rows (t.fields, t.begins.state, t.begins.left) now.reached (now.goes_on.same ∙ begins mid some feed return ∙ t.begins.reads);
+          reached = reached-more default_config st.StartRecord now.state text now.left now.rows (t.fields, t.begins.state, t.begins.left) now.reached (goes_same now.state now.left mid now.goes_on ∙ begins mid some feed return ∙ t.begins.reads);
           goes_on = t.begins.goes_on;
           slots_are = λ row. rows_more null_word now.heads row now.rows t.fields now.slots p.0 (now.slots_are row) (slots_any null_word 0 (length now.rows + row) now.heads t.fields p.0 here);
           columns_are = p.2 ∙ ap (λ cs. taken_each cs p.0) now.columns_are
@@ -167,7 +148,12 @@ module _ (names : List (List ℕ)) (null_word : List ℕ) (header : List (List �
       left = now.left;
       heads_are = now.heads_are;
       reached = now.reached;
-      goes_on = record { same = now.goes_on.same ∙ ap (next_record default_config st.StartRecord [] []) (drop_more mid 0 0 some) ∙ blank (get_or mid 0 0) (drop 1 mid) which };
+      goes_on = record {
+        always = λ more.
+            now.goes_on.always more ∙ ap (λ xs. next_record default_config st.StartRecord [] [] (xs ++ more)) (drop_more mid 0 0 some)
+            ∙ blank (get_or mid 0 0) (drop 1 mid ++ more) which;
+        some = λ _. now.goes_on.some some;
+      };
       slots_are = now.slots_are;
       columns_are = now.columns_are;
     }

@@ -4,7 +4,7 @@ use Rattle.std.proofs.lemmas.List.{length-drop}
 use Rattle.csv.specs.Records.{fields_of}
 use Rattle.gb_tool.specs.Asked.{names_in}
 use Rattle.gb_tool.specs.Building.{Building, in_one_chunk}
-use Rattle.gb_tool.specs.Part.{AreCuts, HasFew, HasPart, IsHeaderRefused, IsWith, ReadsPart, emptied}
+use Rattle.gb_tool.specs.Part.{AreCuts, HasFew, HasPart, IsHeaderRefused, IsWith, ReadsPart, emptied, last_cut}
 use Rattle.gb_tool.specs.declared.status.TableError.{TableError}
 use Rattle.gb_tool.specs.declared.table.lines.Lines.{Lines}
 use Rattle.gb_tool.proofs.LinesLemmas.{few_back, part_alike, part_few, part_join}
@@ -86,8 +86,8 @@ module _ {A : Type 0} (l : Lines) (cuts : List ℕ) where
         front = joined_front all new.items s.front e;
       }
 
-  pub so_far_all : (all : Option (Vec Building A)) → IsSoFar all [] → AreCuts (length l.text.now) cuts → IfSome all (λ columns. HasPart l 0 (length l.text.now) columns.items)
+  pub so_far_all : (all : Option (Vec Building A)) → IsSoFar all [] → AreCuts (length l.text.now) cuts → IfSome all (λ columns. HasPart l 0 (last_cut cuts) columns.items)
   so_far_all None s c = tt
   so_far_all (Some columns) s c =
       let last : s.i ≡ length cuts - 1 = omega (arith, s.count) in
-      rw (c.front, last, c.end) at s.front
+      rw (c.front, last) at s.front

@@ -1,8 +1,8 @@
 -- Cells and records of plain text, as csv's machine reads them.
 use Rattle.std.proofs.Common.{◌≡◌, ◌≢◌, ◌==◌, ℕ, ◌+◌, ◌<◌, ◌≤◌, zero, suc, ◌⊎◌, inl, inr, Bool, true, false, List, [], ◌∷◌, ◌++◌, length, get_or, take, drop, refl, sym, ◌∙◌, ap, arith, Some}
 use Rattle.std.specs.Str.{IsAscii}
-use Rattle.std.proofs.lemmas.Bool.{ne_eqb}
-use Rattle.std.proofs.lemmas.List.{take_all, drop-drop, drop_all, drop_more, take_more}
+use Rattle.std.proofs.lemmas.Bool.{cases_eq, ne_eqb}
+use Rattle.std.proofs.lemmas.List.{append-nil, take_all, drop-drop, drop_all, drop_more, take_more}
 use Rattle.std.proofs.lemmas.Str.{IsAscii-append, IsAscii-drop}
 use Rattle.std.proofs.lemmas.Str.Ascii.{IsAscii-nil}
 use Rattle.csv.specs.declared.parser.State.{State}
@@ -95,20 +95,28 @@ blank c rest (inr return) = rw return refl
 
 -- ---- where a text goes on
 
+-- what is left reads as the rest does, with nothing behind both
+pub goes_same : (state : State) (left rest : List ℕ) → GoesOn state left rest → next_record default_config state [] [] left ≡ next_record default_config st.StartRecord [] [] rest
+goes_same state left rest g = let h = g.always [] in rw (append-nil left, append-nil rest) at h
+
 pub goes_here : (rest : List ℕ) → GoesOn st.StartRecord rest rest
-goes_here rest = record { same = refl }
+goes_here rest = record { always = λ more. refl; some = λ h. h }
+
+-- behind a carriage return a record begins, but for a line feed
+after_return : (text : List ℕ) → next_record default_config st.AfterCr [] [] text ≡ next_record default_config st.StartRecord [] [] text
+unfolding next_record
+after_return [] = refl
+after_return (c ∷ text) = elim (cases_eq c 10) [ inl e ↦ rw e refl | inr e ↦ rw (ne_eqb c 10 e) refl ]
 
 returned_end : IsReturned [] []
-unfolding next_record
-returned_end = record { behind = record { count = 0; is = refl }; goes_on = record { same = refl } }
+returned_end = record { behind = record { count = 0; is = refl }; goes_on = record { always = after_return; some = λ h. h } }
 
 pub returned_feed : (rest : List ℕ) → IsReturned (10 ∷ rest) rest
 unfolding next_record
-returned_feed rest = record { behind = record { count = 1; is = refl }; goes_on = record { same = refl } }
+returned_feed rest = record { behind = record { count = 1; is = refl }; goes_on = record { always = λ more. refl; some = λ h. omega arith } }
 
-pub returned_other : (c : ℕ) (rest : List ℕ) → c ≢ 10 → IsReturned (c ∷ rest) (c ∷ rest)
-unfolding next_record
-returned_other c rest e = record { behind = record { count = 0; is = refl }; goes_on = record { same = rw (ne_eqb c 10 e) refl } }
+pub returned_other : (c : ℕ) (rest : List ℕ) → IsReturned (c ∷ rest) (c ∷ rest)
+returned_other c rest = record { behind = record { count = 0; is = refl }; goes_on = record { always = λ more. after_return ((c ∷ rest) ++ more); some = λ h. h } }
 
 pub returned_none : (left : List ℕ) → length left ≡ 0 → IsReturned left left
 returned_none [] none = returned_end

@@ -12,21 +12,16 @@ use Rattle.gb_tool.specs.Building.{Building, IsWhole, in_one_chunk, read_if_kept
 use Rattle.gb_tool.specs.Part.{IsPart}
 use Rattle.gb_tool.specs.Plain.{BeginsWith}
 use Rattle.gb_tool.specs.Table.{columns_of_header}
-use Rattle.gb_tool.proofs.LinesLemmas.{ReachesBoth, reached_both, read_same, whole_back}
-use Rattle.gb_tool.proofs.PlainLemmas.{begins}
-use Rattle.gb_tool.proofs.ReadingLemmas.{IsReading, header_bad, reading_end, reading_frame, reading_whole}
+use Rattle.gb_tool.proofs.LinesLemmas.{ReachesBoth, reached_both}
+use Rattle.gb_tool.specs.Stream.{IsHeaded}
+use Rattle.gb_tool.proofs.PlainLemmas.{begins, goes_same}
+use Rattle.gb_tool.specs.Taking.{IsReading}
+use Rattle.gb_tool.proofs.ReadingLemmas.{header_bad, reading_end, reading_frame, reading_whole}
 use Rattle.gb_tool.proofs.RecordLemmas.{strip_bom-length}
 
 ends : next_record default_config st.StartRecord [] [] [] ≡ None
 unfolding next_record
 ends = refl
-
--- behind a byte order mark the bytes begin with the header, and the rest stands behind it
-pub record IsHeaded (bytes : List ℕ) (header : List (List ℕ)) (rest : List ℕ) : Type 0 where
-  pub some : 0 < length (strip_bom bytes)
-  pub feed : get_or (strip_bom bytes) 0 0 ≢ 10
-  pub return : get_or (strip_bom bytes) 0 0 ≢ 13
-  pub begins : BeginsWith header (strip_bom bytes) rest
 
 pub headed : (bytes text : List ℕ) (header : List (List ℕ)) (rest : List ℕ) → text ≡ strip_bom bytes → 0 < length text → (get_or text 0 0 ≢ 10) × (get_or text 0 0 ≢ 13) → BeginsWith header text rest → IsHeaded bytes header rest
 headed bytes text header rest is some first begins = record {
@@ -41,7 +36,7 @@ module _ (names : List (List ℕ)) (null_word bytes : List ℕ) (header : List (
   pub rest_short : length rest ≤ length bytes
   rest_short = let long = ap length h.begins.behind.is ∙ length-drop h.begins.behind.count (strip_bom bytes) in omega (arith, long, strip_bom-length bytes)
 
-  plain_reached : Reached default_config st.StartRecord (strip_bom bytes) (header ∷ []) h.begins.state h.begins.left
+  pub plain_reached : Reached default_config st.StartRecord (strip_bom bytes) (header ∷ []) h.begins.state h.begins.left
   unfolding Reached
   plain_reached =
       let read : next_record default_config st.StartRecord [] [] (strip_bom bytes) ≡ Some (header, h.begins.state, h.begins.left) = begins (strip_bom bytes) h.some h.feed h.return ∙ h.begins.reads in
@@ -56,13 +51,16 @@ module _ (names : List (List ℕ)) (null_word bytes : List ℕ) (header : List (
         let goes_on = rw (drop_all (length rest) rest (omega arith)) at p.goes_on in
         reached_both (strip_bom bytes) rest [] (header ∷ []) h.begins.state p.state h.begins.left p.left plain_reached h.begins.goes_on p.rows p.reached goes_on
 
-    all_lines : IsReading names null_word bytes (length p.rows + 1) (map in_one_chunk columns) whole.state whole.left
+    all_lines : IsReading names null_word bytes (length p.rows + 1) columns whole.state whole.left
     all_lines = record {
       header = header;
       rows = p.rows;
       heads = p.heads;
       slots = p.slots;
+      state = whole.state;
+      behind = whole.left;
       reached = whole.reached;
+      goes_on = refl;
       counted = refl;
       heads_are = p.heads_are;
       slots_are = p.slots_are 1;
@@ -70,10 +68,10 @@ module _ (names : List (List ℕ)) (null_word bytes : List ℕ) (header : List (
     }
 
     pub plain_whole : length bytes ≤ 4294967295 → All IsWhole columns
-    plain_whole few = whole_back columns (reading_whole names null_word bytes (length p.rows + 1) (map in_one_chunk columns) whole.state whole.left all_lines few)
+    plain_whole few = reading_whole names null_word bytes (length p.rows + 1) columns whole.state whole.left all_lines few
 
     pub plain_frame : IsFrame (filter_map read_if_kept columns)
-    plain_frame = rw (← (read_same columns)) (reading_frame names null_word bytes (length p.rows + 1) (map in_one_chunk columns) whole.state whole.left all_lines)
+    plain_frame = reading_frame names null_word bytes (length p.rows + 1) columns whole.state whole.left all_lines
 
     pub plain_end : asked_table names bytes null_word ≡ Ok (filter_map read_if_kept columns)
-    plain_end = reading_end names null_word bytes (length p.rows + 1) (map in_one_chunk columns) whole.state whole.left all_lines (whole.goes_on.same ∙ ends) ∙ ap (λ f. Ok f) (read_same columns)
+    plain_end = reading_end names null_word bytes (length p.rows + 1) columns whole.state whole.left all_lines (goes_same whole.state whole.left [] whole.goes_on ∙ ends)

@@ -10,12 +10,14 @@ use Rattle.gb_defs.specs.Slot.{Slot}
 use Rattle.gb_defs.specs.Column.{Frame, IsFrame}
 use Rattle.gb_defs.specs.Table.{TableFault, NoHeader, Head, heads_of, columns_from, rows_from, record_slots, frame_by_rows, frame_by_heads, table, table_of_records}
 use Rattle.gb_tool.specs.Asked.{asked_table, is_asked, kept}
-use Rattle.gb_tool.specs.Building.{Building, IsRoomy, IsWhole, read_if_kept}
+use Rattle.gb_tool.specs.Building.{Building, IsRoomy, IsWhole, in_one_chunk, read_if_kept}
 use Rattle.gb_tool.specs.Status.{fault_value}
+use Rattle.gb_tool.specs.Taking.{IsReading}
 use Rattle.gb_tool.specs.Refusal.{IsRefusedTable}
 use Rattle.gb_tool.specs.declared.status.TableError.{TableError}
 use Rattle.gb_tool.specs.declared.status.TableError.TheVariants.{Fault, NoMemory}
 use Rattle.gb_tool.specs.Table.{built_from, map_ok, columns_with, columns_of_header, head_in, taken_each}
+use Rattle.gb_tool.proofs.BuiltLemmas.{heads_one, one_built, read_same, roomy_back, taken_one, whole_back}
 use Rattle.gb_tool.proofs.RecordLemmas.{whole_records, first_records, records_few, strip_bom-length}
 use Rattle.gb_tool.proofs.AskedLemmas.{kept_is_frame}
 use Rattle.gb_tool.proofs.TableLemmas.{columns_kept, heads_in_built, record_length, rows_more, rows_bad, rows_length, columns_more, roomy_columns, whole_columns, names_from, aligned, distinct_from}
@@ -32,18 +34,6 @@ ok_parts f (Err fault) y e = cc
 no_ok : {A B : Type 0} (f : A → B) (r : Result A TableFault) (fault : TableFault) → map_ok f r ≡ Err fault → r ≡ Err fault
 no_ok f (Ok x) fault e = cc
 no_ok f (Err other) fault e = let same : other ≡ fault = cc in ap (λ g. Err g) same
-
--- the columns are those of these records, which are the text so far; the next record has this row
-pub record IsReading (names : List (List ℕ)) (null_word bytes : List ℕ) (row : ℕ) (columns : List Building) (s : State) (left : List ℕ) : Type 0 where
-  pub header : List (List ℕ)
-  pub rows : List (List (List ℕ))
-  pub heads : List Head
-  pub slots : List (List Slot)
-  pub reached : Reached default_config st.StartRecord (strip_bom bytes) (header ∷ rows) s left
-  pub counted : row ≡ length rows + 1
-  pub heads_are : heads_of header ≡ Ok heads
-  pub slots_are : rows_from null_word 1 heads rows ≡ Ok slots
-  pub columns_are : columns ≡ built_from (is_asked names) 0 heads slots
 
 module _ (names : List (List ℕ)) (null_word bytes : List ℕ) where
   -- ---- no header
@@ -74,11 +64,14 @@ module _ (names : List (List ℕ)) (null_word bytes : List ℕ) where
         rows = [];
         heads = p.0;
         slots = [];
+        state = s;
+        behind = left;
         reached = r;
+        goes_on = refl;
         counted = refl;
         heads_are = p.1;
         slots_are = refl;
-        columns_are = p.2;
+        columns_are = ap (map in_one_chunk) p.2 ∙ one_built (is_asked names) 0 p.0 [];
       }
 
   module _ (row : ℕ) (columns : List Building) (s : State) (left : List ℕ) (now : IsReading names null_word bytes row columns s left) where
@@ -86,7 +79,7 @@ module _ (names : List (List ℕ)) (null_word bytes : List ℕ) where
 
     slots_with : (fields : List (List ℕ)) → columns_with null_word row columns fields ≡ map_ok (taken_each columns) (record_slots null_word (length now.rows + 1) now.heads fields)
     slots_with fields =
-        ap (λ heads. map_ok (taken_each columns) (record_slots null_word row heads fields)) (ap (map head_in) now.columns_are ∙ heads_in_built (is_asked names) 0 now.heads now.slots)
+        ap (λ heads. map_ok (taken_each columns) (record_slots null_word row heads fields)) (sym (heads_one columns) ∙ ap (map head_in) now.columns_are ∙ heads_in_built (is_asked names) 0 now.heads now.slots)
         ∙ ap (λ n. map_ok (taken_each columns) (record_slots null_word n now.heads fields)) now.counted
 
     pub reading_more : (fields : List (List ℕ)) (columns' : List Building) (s' : State) (left' : List ℕ) → Reached default_config st.StartRecord (strip_bom bytes) (now.header ∷ now.rows ++ fields ∷ []) s' left'
@@ -98,11 +91,14 @@ module _ (names : List (List ℕ)) (null_word bytes : List ℕ) where
           rows = now.rows ++ fields ∷ [];
           heads = now.heads;
           slots = now.slots ++ p.0 ∷ [];
+          state = s';
+          behind = left';
           reached = r;
+          goes_on = refl;
           counted = omega (arith, now.counted, length-append now.rows (fields ∷ []));
           heads_are = now.heads_are;
           slots_are = rows_more null_word now.heads 1 now.rows fields now.slots p.0 now.slots_are p.1;
-          columns_are = p.2 ∙ ap (λ cs. taken_each cs p.0) now.columns_are
+          columns_are = ap (map in_one_chunk) p.2 ∙ taken_one columns p.0 ∙ ap (λ cs. taken_each cs p.0) now.columns_are
               ∙ columns_more (is_asked names) 0 now.heads now.slots [] p.0 refl (record_length null_word (length now.rows + 1) now.heads fields p.0 p.1);
         }
 
@@ -118,11 +114,11 @@ module _ (names : List (List ℕ)) (null_word bytes : List ℕ) where
     -- ---- no record more
 
     kept_columns : filter_map read_if_kept columns ≡ kept names (columns_from 0 now.heads now.slots)
-    kept_columns = ap (filter_map read_if_kept) now.columns_are ∙ columns_kept names 0 now.heads now.slots
+    kept_columns = sym (read_same columns) ∙ ap (filter_map read_if_kept) now.columns_are ∙ columns_kept names 0 now.heads now.slots
 
     pub reading_end : next_record default_config s [] [] left ≡ None → asked_table names bytes null_word ≡ Ok (filter_map read_if_kept columns)
     reading_end e =
-        ap (map_ok (kept names)) (table_at now.header now.rows (whole_records default_config (strip_bom bytes) (now.header ∷ now.rows) s left now.reached e)
+        ap (map_ok (kept names)) (table_at now.header now.rows (whole_records default_config (strip_bom bytes) (now.header ∷ now.rows) now.state now.behind now.reached (now.goes_on ∙ e))
         ∙ ap (λ h. frame_by_heads null_word h now.rows) now.heads_are ∙ ap (frame_by_rows now.heads) now.slots_are)
         ∙ ap (λ f. Ok f) (sym kept_columns)
 
@@ -135,13 +131,13 @@ module _ (names : List (List ℕ)) (null_word bytes : List ℕ) where
     }))
 
     few_rows : length now.slots ≤ length bytes
-    few_rows = omega (arith, records_few default_config st.StartRecord (strip_bom bytes) (now.header ∷ now.rows) s left now.reached, strip_bom-length bytes, rows_length null_word now.heads 1 now.rows now.slots now.slots_are)
+    few_rows = omega (arith, records_few default_config st.StartRecord (strip_bom bytes) (now.header ∷ now.rows) now.state now.behind now.reached, strip_bom-length bytes, rows_length null_word now.heads 1 now.rows now.slots now.slots_are)
 
     pub reading_roomy : length bytes ≤ 4294967295 → All IsRoomy columns
-    reading_roomy h = rw now.columns_are (All-from_recursion IsRoomy _ (roomy_columns (is_asked names) 0 now.heads now.slots (omega (arith, few_rows, h))))
+    reading_roomy h = roomy_back columns (rw now.columns_are (All-from_recursion IsRoomy _ (roomy_columns (is_asked names) 0 now.heads now.slots (omega (arith, few_rows, h)))))
 
     pub reading_whole : length bytes ≤ 4294967295 → All IsWhole columns
-    reading_whole h = rw now.columns_are (All-from_recursion IsWhole _ (whole_columns (is_asked names) 0 now.heads now.slots (omega (arith, few_rows, h))))
+    reading_whole h = whole_back columns (rw now.columns_are (All-from_recursion IsWhole _ (whole_columns (is_asked names) 0 now.heads now.slots (omega (arith, few_rows, h)))))
 
 -- ---- what a table reads as is a frame
 

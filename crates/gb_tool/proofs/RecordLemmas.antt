@@ -59,7 +59,7 @@ settled_step cfg st.AfterQuote c = settled_if _ _ _ (settled_copy st.InQuoted) (
 settled_step cfg st.InComment c = settled_if _ _ _ (settled_skip st.StartRecord) (settled_skip st.InComment)
 settled_step cfg st.AfterCr c = settled_if _ _ _ (settled_skip st.StartRecord) (settled_record cfg c)
 
-some_of : {A : Type 0} {a b : A} → Some a ≡ Some b → a ≡ b
+pub some_of : {A : Type 0} {a b : A} → Some a ≡ Some b → a ≡ b
 some_of e = cc
 
 light : (b : Bool) → cond b 1 0 ≤ 1

@@ -5,7 +5,7 @@ use Rattle.std.specs.Result.{result_err}
 use Rattle.gb_defs.specs.Column.{Content, Frame, IsFrame, rechunked}
 use Rattle.gb_defs.specs.Fault.{Fault}
 use Rattle.gb_defs.specs.Fold.{Method}
-use Rattle.gb_defs.specs.Outcome.{BadGroup, Report, grouped, outcome, outcome_of_table, written}
+use Rattle.gb_defs.specs.Outcome.{BadGroup, BadTable, Outcome, Report, grouped, outcome, outcome_of_table, written}
 use Rattle.gb_defs.specs.Request.{Given, Group, Request, ToolOptions, asked_keys, given_from, group_of, nothing, request}
 use Rattle.gb_defs.specs.Table.{TableFault, table}
 use Rattle.gb_defs.specs.Text.{frame_text}
@@ -15,7 +15,8 @@ use Rattle.gb_tool.specs.declared.status.TableError.{TableError}
 use Rattle.gb_tool.specs.declared.status.TableError.TheVariants.{Fault as Faulty, NoMemory}
 use Rattle.gb_tool.specs.Request.{HasOneKey}
 use Rattle.gb_tool.specs.Run.{IsRefusedReport}
-use Rattle.gb_tool.specs.Status.{IsStatusOf, IsTold, IsToldOf, of_table}
+use Rattle.gb_tool.specs.Stream.{HasReadAll, IsRefusedInput, IsRefusedText}
+use Rattle.gb_tool.specs.Status.{fault_value, IsStatusOf, IsTold, IsToldOf, of_table}
 use Rattle.gb_tool.specs.declared.status.Status.{Status}
 use Rattle.gb_tool.specs.declared.status.Status.TheVariants as status
 use Rattle.gb_tool.specs.Refusal.{IsRefusedTable}
@@ -84,3 +85,32 @@ module _ (by : List ℕ) (aggs : List (List ℕ × Method)) (options : ToolOptio
 
   pub good_report : (columns : List Content) (text : List ℕ) → grouped frame (by ∷ []) aggs ≡ Ok columns → text ≡ frame_text columns options.null_word → outcome (Group (by ∷ []) aggs options) bytes ≡ Report text
   good_report columns text is printed = read_outcome ∙ ap (written options.null_word) is ∙ ap (λ t. Report t) (sym printed)
+
+-- ---- what was read of a source
+
+pub read_map : (limit : ℕ) (before after : Option (List ℕ)) (P Q : List ℕ → Type 0) → ((bytes : List ℕ) → P bytes → Q bytes) → HasReadAll limit before after P → HasReadAll limit before after Q
+read_map limit before after P Q f h = record { bytes = h.bytes; told = h.told; ended = h.ended; within = h.within; holds = f h.bytes h.holds }
+
+-- why a table is refused is why there is no text
+pub refused_table : (by : List (List ℕ)) (aggs : List (List ℕ × Method)) (options : ToolOptions) (faults faults_after limit : ℕ) (before after : Option (List ℕ)) (s : Status) → IsRefusedInput options.null_word faults faults_after limit before after s
+    → IsRefusedText (outcome (Group by aggs options)) faults faults_after limit before after s
+refused_table by aggs options faults faults_after limit before after (status.Table fault) h =
+    read_map limit before after (λ bytes. table bytes options.null_word ≡ Err (fault_value fault)) (λ bytes. outcome (Group by aggs options) bytes ≡ BadTable (fault_value fault)) (λ bytes bad. bad_table by aggs options bytes (Faulty fault) bad) h
+refused_table by aggs options faults faults_after limit before after status.ReadFault h = h
+refused_table by aggs options faults faults_after limit before after status.TooLong h = h
+refused_table by aggs options faults faults_after limit before after status.NoMemory h = tt
+refused_table by aggs options faults faults_after limit before after status.Done h = absurd h
+refused_table by aggs options faults faults_after limit before after status.Usage h = absurd h
+refused_table by aggs options faults faults_after limit before after status.WriteFault h = absurd h
+refused_table by aggs options faults faults_after limit before after (status.Group e) h = absurd h
+
+-- so is why a frame is refused
+pub refused_frame : (comes : List ℕ → Outcome) (faults faults_after limit : ℕ) (before after : Option (List ℕ)) (s : Status) → HasReadAll limit before after (λ bytes. IsRefusedReport s (comes bytes)) → IsRefusedText comes faults faults_after limit before after s
+refused_frame comes faults faults_after limit before after status.ReadFault h = absurd h.holds
+refused_frame comes faults faults_after limit before after status.TooLong h = absurd h.holds
+refused_frame comes faults faults_after limit before after status.NoMemory h = tt
+refused_frame comes faults faults_after limit before after (status.Table fault) h = h
+refused_frame comes faults faults_after limit before after (status.Group e) h = h
+refused_frame comes faults faults_after limit before after status.Done h = h
+refused_frame comes faults faults_after limit before after status.Usage h = h
+refused_frame comes faults faults_after limit before after status.WriteFault h = h

@@ -1,5 +1,5 @@
 -- What the cause of a status says: of an input past the limit, and of an error of the grouping.
-use Rattle.std.proofs.Common.{◌≡◌, ◌<◌, ◌≤◌, ◌⊎◌, ℕ, List, [], ◌∷◌, length, Some, inl, inr, refl, subst, arith}
+use Rattle.std.proofs.Common.{◌≡◌, ◌<◌, ◌≤◌, ◌⊎◌, ℕ, List, [], ◌∷◌, ◌∙◌, length, Option, Some, inl, inr, refl, sym, subst, arith}
 use Rattle.gb_defs.specs.Fault as fault
 use Rattle.gb_defs.specs.Request as asked
 use Rattle.gb_defs.specs.Outcome.{Outcome, BadTable, BadGroup, Report}
@@ -10,7 +10,10 @@ use Rattle.gb_base.specs.declared.error.PolarsError.TheVariants.{ColumnNotFound,
 use Rattle.gb_tool.specs.declared.status.Status.{Status}
 use Rattle.gb_tool.specs.declared.status.Status.TheVariants.{Done, Usage, Table, Group, ReadFault, WriteFault, TooLong, NoMemory}
 use Rattle.gb_tool.specs.Run.{Comes, HasCause, IsOneOf, Run, Task}
+use Rattle.gb_defs.specs.Outcome.{outcome}
 use Rattle.gb_tool.specs.Status.{fault_value}
+use Rattle.gb_tool.specs.Stream.{HasReadAll, IsRefusedText}
+use Rattle.gb_tool.proofs.RecordLemmas.{some_of}
 
 module _ (task : Task) (q : asked.Request) (bytes : List ℕ) (e : task.request ≡ Some q) (t : task.input ≡ Some bytes) (long : task.limit < length bytes) where
   -- an outcome comes of an input within the limit
@@ -44,3 +47,43 @@ module _ (run : Run) (s : Status) (cause : HasCause run s) where
       told ComputeError h = inl refl
       told (ColumnNotFound name) h = inr (name, refl)
       told _ h = absurd h.1
+
+-- ---- what a report says of the source
+
+module _ (words : Option asked.Request) (q : asked.Request) (limit : ℕ) (before after : Option (List ℕ)) (is : words ≡ Some q) where
+  -- the outcome of the bytes that the source told
+  pub comes_of : (o : Outcome) → HasReadAll limit before after (λ bytes. outcome q bytes ≡ o) → Comes (record { request = words; input = before; limit = limit }) o
+  comes_of o h = record {
+    asked = rw is refl;
+    comes = λ other bytes e t.
+        let same : q ≡ other = some_of (sym is ∙ e) in
+        let told : h.bytes ≡ bytes = rw t at h.told in
+        (rw (← told) h.within, rw (← told, ← same) h.holds);
+  }
+
+  module _ (faults faults_after : ℕ) (held held_after : Option (List ℕ)) (written written_after : ℕ) where
+    abbrev pub run_of : Run
+    run_of = record {
+      task = record { request = words; input = before; limit = limit };
+      read_faults = faults;
+      read_faults_after = faults_after;
+      held = held;
+      held_after = held_after;
+      write_faults = written;
+      write_faults_after = written_after;
+    }
+
+    -- why there is no text is the cause of the run's status
+    pub refused_cause : (s : Status) → IsRefusedText (outcome q) faults faults_after limit before after s → HasCause run_of s
+    refused_cause (Table fault) h = comes_of (BadTable (fault_value fault)) h
+    refused_cause (Group e) h = (
+      h.holds.0,
+      h.holds.1,
+      comes_of (BadGroup h.holds.0) (record { bytes = h.bytes; told = h.told; ended = h.ended; within = h.within; holds = h.holds.2 }),
+    )
+    refused_cause ReadFault h = (rw is refl, h)
+    refused_cause TooLong h = record { asked = rw is refl; long = h }
+    refused_cause NoMemory h = tt
+    refused_cause Done h = absurd h.holds
+    refused_cause Usage h = absurd h.holds
+    refused_cause WriteFault h = absurd h.holds

@@ -1,18 +1,21 @@
 -- A reader and the columns of what it has read.
 use Rattle.std.proofs.Common.{◌≡◌, ℕ, ◌+◌, ◌≤◌, true, false, inr, List, [], ◌∷◌, ◌++◌, length, refl, sym, ◌∙◌, ap, Some, None, Ok, Err, All, Bor}
+use Rattle.csv.specs.declared.parser.State.{State}
 use Rattle.csv.specs.declared.parser.State.TheVariants as st
 use Rattle.csv.specs.declared.reader.Reader.{Reader}
 use Rattle.csv.specs.declared.reader.ReaderBuilder.{ReaderBuilder}
 use Rattle.csv.specs.declared.reader.Trim.TheVariants as trim
+use Rattle.csv.specs.Machine.{Read, next_record}
 use Rattle.csv.specs.Reading.{Reached, ReadRecord, default_config, source_of, strip_bom, with_flexible, with_names_headers}
-use Rattle.csv.proofs.ReadFacts.{rows-end, rows-more}
+use Rattle.csv.proofs.ReadFacts.{reached-more, rows-end, rows-more}
 use Rattle.gb_defs.specs.Table.{TableFault, NoHeader, table}
 use Rattle.std.specs.List.{filter_map}
 use Rattle.gb_defs.specs.Column.{IsFrame}
 use Rattle.gb_tool.specs.Asked.{asked_table, is_asked}
 use Rattle.gb_tool.specs.Building.{Building, IsRoomy, IsWhole, read_if_kept}
 use Rattle.gb_tool.specs.Table.{GivesRecords, HasRecordsOf, columns_with, columns_of_header, left_of}
-use Rattle.gb_tool.proofs.ReadingLemmas.{IsReading, no_header, header_bad, reading_header, reading_more, reading_bad, reading_end, reading_frame, reading_roomy, reading_whole}
+use Rattle.gb_tool.specs.Taking.{IsTaking}
+use Rattle.gb_tool.proofs.ReadingLemmas.{no_header, header_bad, reading_header, reading_more, reading_bad, reading_end, reading_frame, reading_roomy, reading_whole}
 
 -- a reader of a builder that names no headers and is flexible
 pub records_given : (new named made : ReaderBuilder) (reader : Reader (Bor (List ℕ))) → named ≡ with_names_headers new false → made ≡ with_flexible named true → new.config ≡ default_config → new.trim ≡ trim.None
@@ -24,12 +27,14 @@ records_given new named made reader e f config how c t h flexible none = record 
   flexible = flexible ∙ ap (λ b. b.flexible) f;
 }
 
--- the columns are those of the records that the reader has given
-pub record IsTaking (names : List (List ℕ)) (null_word bytes : List ℕ) (row : ℕ) (columns : List Building) (reader : Reader (Bor (List ℕ))) : Type 0 where
-  pub gives : GivesRecords reader
-  pub left : List ℕ
-  pub source : source_of left_of reader ≡ Some left
-  pub reading : IsReading names null_word bytes row columns reader.state left
+taken_apart : (s : State) (xs : List ℕ) (fields : List (List ℕ)) (t : State) (z : List ℕ) → Reached default_config s xs (fields ∷ []) t z
+    → (p : Read) × (next_record default_config s [] [] xs ≡ Some p) × (fields ≡ p.0) × ((p.1 ≡ t) × (p.2 ≡ z))
+unfolding Reached
+taken_apart s xs fields t z r = r
+
+reached_as : (xs : List ℕ) (rows : List (List (List ℕ))) (f g : List (List ℕ)) (s t : State) (y z : List ℕ) → f ≡ g → s ≡ t → y ≡ z
+    → Reached default_config st.StartRecord xs (rows ++ g ∷ []) s y → Reached default_config st.StartRecord xs (rows ++ f ∷ []) t z
+reached_as xs rows f g s t y z e h k r = rw (e, ← h, ← k) r
 
 module _ (names : List (List ℕ)) (null_word bytes : List ℕ) where
   -- ---- the header
@@ -74,8 +79,15 @@ module _ (names : List (List ℕ)) (null_word bytes : List ℕ) where
           reading_end names null_word bytes row columns a.state s.left s.reading (rows-end left_of a b fields default_config s.left s.gives.config s.source r)
 
       module _ (fields : List (List ℕ)) (r : ReadRecord left_of a b true fields) where
+        first : (z : List ℕ) × (source_of left_of b ≡ Some z) × Reached default_config a.state s.left (fields ∷ []) b.state z
+        unfolding Reached
+        first = rows-more left_of a b fields default_config a.state s.left s.left [] s.gives.config s.source (refl, refl) r
+
         further : (z : List ℕ) × (source_of left_of b ≡ Some z) × Reached default_config st.StartRecord (strip_bom bytes) ((s.reading.header ∷ s.reading.rows) ++ fields ∷ []) b.state z
-        further = rows-more left_of a b fields default_config st.StartRecord (strip_bom bytes) s.left (s.reading.header ∷ s.reading.rows) s.gives.config s.source s.reading.reached r
+        further =
+            let read = taken_apart a.state s.left fields b.state first.0 first.2 in
+            let more = reached-more default_config st.StartRecord s.reading.state (strip_bom bytes) s.reading.behind (s.reading.header ∷ s.reading.rows) read.0 s.reading.reached (s.reading.goes_on ∙ read.1) in
+            (first.0, first.1, reached_as (strip_bom bytes) (s.reading.header ∷ s.reading.rows) fields read.0.0 read.0.1 b.state read.0.2 first.0 read.2 read.3.0 read.3.1 more)
 
         pub taking_bad : (fault : TableFault) → columns_with null_word row columns fields ≡ Err fault → table bytes null_word ≡ Err fault
         taking_bad fault e = reading_bad names null_word bytes row columns a.state s.left s.reading fields b.state further.0 further.2 fault e

@@ -11,6 +11,8 @@ pub mod Refusal
 pub mod Request
 pub mod Run
 pub mod Status
+pub mod Stream
 pub mod Table
+pub mod Taking
 pub mod Text
 pub mod Words

@@ -69,9 +69,12 @@ pub record ReadsPart {A : Type 0} (l : Lines) (cuts : List ℕ) (k : ℕ) (r : R
   pub ok : IfOk r (λ found. IfSome found (λ columns. HasPart l (slice_index cuts k) (slice_index cuts (k + 1)) columns.items))
   pub err : IfErr r (IsHeaderRefused l)
 
--- places of a text, the first at its front and the last at its end
+-- places of a text, the first at its front
 pub record AreCuts (long : ℕ) (cuts : List ℕ) : Type 0 where
   pub some : 2 ≤ length cuts
   pub front : slice_index cuts 0 ≡ 0
-  pub end : slice_index cuts (length cuts - 1) ≡ long
   pub inside : All (λ cut. cut ≤ long) cuts
+
+-- the last of the places
+abbrev pub last_cut : List ℕ → ℕ
+last_cut cuts = slice_index cuts (length cuts - 1)

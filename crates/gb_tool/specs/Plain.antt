@@ -13,10 +13,11 @@ pub record IsBehind (text rest : List ℕ) : Type 0 where
   pub count : ℕ
   pub is : rest ≡ drop count text
 
--- what is left in a state reads as the rest does where a record begins: behind a carriage return a line
--- feed is left
+-- what is left in a state reads as the rest does where a record begins, whatever stands behind both: behind
+-- a carriage return a line feed is left
 pub record GoesOn (state : State) (left rest : List ℕ) : Type 0 where
-  pub same : next_record default_config state [] [] left ≡ next_record default_config st.StartRecord [] [] rest
+  pub always : (more : List ℕ) → next_record default_config state [] [] (left ++ more) ≡ next_record default_config st.StartRecord [] [] (rest ++ more)
+  pub some : 0 < length rest → 0 < length left
 
 -- what stands behind a carriage return begins the next record, but for a line feed
 pub record IsReturned (left rest : List ℕ) : Type 0 where

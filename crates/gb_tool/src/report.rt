@@ -1,18 +1,20 @@
-//! The pure middle: from the bytes of a table to the text of the answer.
+//! From the table that a source has to the text of the answer.
 
-ghost use Rattle.std.specs.Prelude.{◌≡◌, ◌≤◌, IfErr, IfOk, vec_len};
+ghost use Rattle.std.specs.Prelude.{◌≡◌, ◌≢◌, ◌≤◌, ◌+◌, Err, IfErr, IfOk};
 ghost use Rattle.gb_defs.specs.Outcome.{Report, outcome};
 ghost use Rattle.gb_base.specs.PlSmallStr.{name_of};
 ghost use Rattle.gb_tool.specs.Asked.{asked_names, names_in};
 ghost use Rattle.gb_tool.specs.Request.{HasOneKey, aggs_of, group_by, request_of};
-ghost use Rattle.gb_tool.specs.Run.{IsRefusedReport};
+ghost use Rattle.gb_tool.specs.Run.{HasTaken};
+ghost use Rattle.gb_tool.specs.Stream.{HasReadAll, IsRefusedText};
+ghost use Rattle.gb_tool.specs.declared.status.Status.TheVariants as status;
 
 use crate::grouping::group_frame;
 use crate::status::Status;
-use crate::table::table_of;
+use crate::table::blocks::{Reading, read_table};
 use crate::text;
 use crate::words::{Agg, Request, ToolOptions};
-use gb_base::device::Gate;
+use gb_base::device::{Gate, Source};
 use gb_base::pool::Pool;
 use gb_base::small_str::PlSmallStr;
 use std::alloc::{AllocError, Global};
@@ -29,25 +31,33 @@ fn pool_of(options: &ToolOptions) -> Pool {
     )
 }
 
-/// The text of the answer to the request over the table's bytes, which are let go of once they are read.
-/// Today a request has one key.
-pub fn report<R: Threads + Sync, G: Gate + Sync>(
+// How many bytes of the input are held at a time.
+const BLOCK_BYTES: usize = 8_388_608;
+
+/// The text of the answer to the request over the table that the source has left, if it is at most `limit`
+/// bytes. Today a request has one key.
+pub fn report<R: Threads + Sync, S: Source, G: Gate + Sync>(
     rt: &R,
     alloc: Global,
     request: &Request,
-    bytes: Vec<u8>,
+    source: &mut S,
+    limit: u64,
     gate: &G,
 ) -> Result<Vec<u8>, Status>
-    requires few { vec_len bytes ≤ 4294967295 }
+    requires limit { limit ≤ 4294967295 }
     requires one_key { HasOneKey (request_of request.now) }
-    ensures ok { IfOk result (λ text.
-        outcome (request_of request.now) bytes.items ≡ Report text.items) }
-    ensures err { IfErr result (λ s.
-        IsRefusedReport s (outcome (request_of request.now) bytes.items)) }
+    ensures ok { IfOk result (λ text. HasReadAll limit (S.left source.old) (S.left source.new)
+        (λ bytes. outcome (request_of request.now) bytes ≡ Report text.items)) }
+    ensures err { IfErr result (IsRefusedText (outcome (request_of request.now))
+        (S.faults source.old) (S.faults source.new) limit
+        (S.left source.old) (S.left source.new)) }
+    ensures taken { result ≢ Err status.ReadFault
+        → HasTaken (limit + 65536) (S.left source.old) (S.left source.new) }
+    ensures kept { S.faults source.old ≤ S.faults source.new }
 {
     match request {
         Request::Group { by, aggs, options } => {
-            group_report(rt, alloc, &by[0], aggs, options, bytes, gate)
+            group_report(rt, alloc, &by[0], aggs, options, source, limit, gate)
         }
     }
 }
@@ -70,27 +80,35 @@ fn names_asked<'a>(
 }
 
 // The text of the grouped table.
-fn group_report<R: Threads + Sync, G: Gate + Sync>(
+fn group_report<R: Threads + Sync, S: Source, G: Gate + Sync>(
     rt: &R,
     alloc: Global,
     by: &PlSmallStr,
     aggs: &[Agg],
     options: &ToolOptions,
-    bytes: Vec<u8>,
+    source: &mut S,
+    limit: u64,
     gate: &G,
 ) -> Result<Vec<u8>, Status>
-    requires few { vec_len bytes ≤ 4294967295 }
-    ensures ok { IfOk result (λ text.
-        outcome (group_by by.now aggs.now options.now) bytes.items ≡ Report text.items) }
-    ensures err { IfErr result (λ s.
-        IsRefusedReport s (outcome (group_by by.now aggs.now options.now) bytes.items)) }
+    requires limit { limit ≤ 4294967295 }
+    ensures ok { IfOk result (λ text. HasReadAll limit (S.left source.old) (S.left source.new)
+        (λ bytes. outcome (group_by by.now aggs.now options.now) bytes ≡ Report text.items)) }
+    ensures err { IfErr result (IsRefusedText (outcome (group_by by.now aggs.now options.now))
+        (S.faults source.old) (S.faults source.new) limit
+        (S.left source.old) (S.left source.new)) }
+    ensures taken { result ≢ Err status.ReadFault
+        → HasTaken (limit + 65536) (S.left source.old) (S.left source.new) }
+    ensures kept { S.faults source.old ≤ S.faults source.new }
 {
-    let null_word = options.null_word.as_str();
     let names = names_asked(alloc, by, aggs)?;
     let pool = pool_of(options);
-    let frame = table_of(rt, alloc, &bytes, null_word, &names, pool.workers())?;
-    // The text of a table takes more room than the columns that were read of it.
-    drop(bytes);
+    let reading = Reading {
+        names: &names,
+        null_word: options.null_word.as_str(),
+        workers: pool.workers(),
+        block: BLOCK_BYTES,
+    };
+    let frame = read_table(rt, alloc, source, limit, &reading)?;
     let answer = group_frame(rt, alloc, &frame, by, aggs, &pool, gate)?;
-    Ok(text::text_of(alloc, &answer, null_word)?)
+    Ok(text::text_of(alloc, &answer, options.null_word.as_str())?)
 }

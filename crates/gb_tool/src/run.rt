@@ -18,7 +18,7 @@ ghost use Rattle.gb_tool.specs.declared.status.Status.TheVariants as status;
 
 use crate::report::report;
 use crate::status::Status;
-use crate::streams::{read_all, write_text};
+use crate::streams::write_text;
 use crate::words::request_of;
 use gb_base::device::{Gate, Sink, Source};
 use std::alloc::Global;
@@ -64,8 +64,7 @@ fn answer<R: Threads + Sync, S: Source, W: Sink, G: Gate + Sync>(
         Ok(None) => return Err(Status::Usage),
         Err(_) => return Err(Status::NoMemory),
     };
-    let bytes = read_all(alloc, source, limit)?;
-    let text = report(rt, alloc, &request, bytes, gate)?;
+    let text = report(rt, alloc, &request, source, limit, gate)?;
     write_text(sink, text.as_slice())?;
     Ok(())
 }

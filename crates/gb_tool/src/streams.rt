@@ -1,13 +1,14 @@
-//! Reading the input whole, and writing the answer whole.
+//! Reading the input, and writing the answer whole.
 
-ghost use Rattle.std.specs.Prelude.{◌≡◌, ◌≢◌, ◌≤◌, ◌+◌, ◌<◌, ◌++◌, [], length, Err, IfErr, IfOk, IfSome, OnErr, OnOk, Some, option_map, vec_len};
+ghost use Rattle.std.specs.Prelude.{◌≡◌, ◌≢◌, ◌≤◌, ◌+◌, ◌-◌, ◌<◌, ◌++◌, [], length, Err, IfErr, IfOk, IfSome, OnErr, OnOk, Some, option_map};
+ghost use Rattle.std.specs.Bool.{OnFalse, OnTrue};
 ghost use Rattle.gb_base.specs.Device.{Rose};
-ghost use Rattle.gb_tool.specs.Run.{HasMoved, HasTaken, Holds, HoldsPart, IsInputFault, IsPieceFault, IsReadToEnd};
+ghost use Rattle.gb_tool.specs.Run.{HasMoved, HasTaken, Holds, HoldsPart, IsInputFault, IsPieceFault};
+ghost use Rattle.gb_tool.specs.Stream.{HasFilled};
 ghost use Rattle.gb_tool.specs.declared.status.Status.TheVariants as status;
 
 use crate::status::Status;
 use gb_base::device::{Failed, Sink, Source};
-use std::alloc::Global;
 
 /// How many bytes are asked for at a time.
 const ROOM: usize = 65536;
@@ -36,30 +37,89 @@ fn read_piece<S: Source>(source: &mut S, bytes: &mut Vec<u8>) -> Result<usize, S
     }
 }
 
-/// The bytes that the source has left, if they are at most `limit`.
-pub fn read_all<S: Source>(alloc: Global, source: &mut S, limit: u64) -> Result<Vec<u8>, Status>
-    requires { limit ≤ 4294967295 }
-    ensures bytes { IfOk result (λ v. IfSome (S.left source.old) (λ told. v.items ≡ told)) }
-    ensures fits { IfOk result (λ v. vec_len v ≤ limit) }
-    ensures ended { OnOk result (IsReadToEnd (S.left source.old) (S.left source.new)) }
-    ensures err { IfErr result (λ s.
-        IsInputFault (S.faults source.old) (S.faults source.new) limit (S.left source.old) s) }
+/// How many bytes of the input were read, and whether it has ended.
+#[derive(Clone, Copy)]
+pub struct Progress {
+    pub read: u64,
+    pub ended: bool,
+}
+
+/// Moves the next bytes of the source behind those that are held, until these are at least so many or the
+/// source has ended. Of the input so many bytes were read before, and at most `limit` may be.
+pub fn fill<S: Source>(
+    source: &mut S,
+    held: &mut Vec<u8>,
+    read: u64,
+    limit: u64,
+    enough: usize,
+) -> Result<Progress, Status>
+    requires within { read ≤ limit }
+    requires limit { limit ≤ 4294967295 }
+    ensures filled { IfOk result (λ p.
+        HasFilled read p.read held.old.items held.new.items
+        (S.left source.old) (S.left source.new)) }
+    ensures within { IfOk result (λ p. p.read ≤ limit) }
+    ensures enough { IfOk result (λ p. OnFalse p.ended (enough ≤ length held.new.items)) }
+    ensures ended { IfOk result (λ p. OnTrue p.ended
+        (IfSome (S.left source.new) (λ rest. rest ≡ []))) }
+    ensures err { IfErr result (λ s. IsInputFault
+        (S.faults source.old) (S.faults source.new) (limit - read) (S.left source.old) s) }
     ensures taken { result ≢ Err status.ReadFault
-        → HasTaken (limit + 65536) (S.left source.old) (S.left source.new) }
+        → HasTaken (limit - read + 65536) (S.left source.old) (S.left source.new) }
     ensures kept { S.faults source.old ≤ S.faults source.new }
 {
-    let mut bytes = Vec::new(alloc);
+    let mut now = read;
     // The label names the loop in its proof.
     'pieces: for _ in 0..u64::MAX {
-        let count = read_piece(source, &mut bytes)?;
-        if count == 0 {
-            return Ok(bytes);
+        if held.len() >= enough {
+            return Ok(Progress {
+                read: now,
+                ended: false,
+            });
         }
-        if bytes.len() as u64 > limit {
+        let count = read_piece(source, held)?;
+        if count == 0 {
+            return Ok(Progress {
+                read: now,
+                ended: true,
+            });
+        }
+        now += count as u64;
+        if now > limit {
             return Err(Status::TooLong);
         }
     }
     Err(Status::NoMemory)
+}
+
+/// Moves all that the source has left behind the bytes that are held, where it has not ended.
+pub fn fill_all<S: Source>(
+    source: &mut S,
+    held: &mut Vec<u8>,
+    progress: Progress,
+    limit: u64,
+) -> Result<Progress, Status>
+    requires within { progress.read ≤ limit }
+    requires limit { limit ≤ 4294967295 }
+    requires ended { OnTrue progress.ended (IfSome (S.left source.old) (λ rest. rest ≡ [])) }
+    ensures filled { IfOk result (λ p. HasFilled progress.read p.read
+        held.old.items held.new.items (S.left source.old) (S.left source.new)) }
+    ensures within { IfOk result (λ p. p.read ≤ limit) }
+    ensures ended { OnOk result (IfSome (S.left source.new) (λ rest. rest ≡ [])) }
+    ensures err { IfErr result (λ s. IsInputFault (S.faults source.old) (S.faults source.new)
+        (limit - progress.read) (S.left source.old) s) }
+    ensures taken { result ≢ Err status.ReadFault
+        → HasTaken (limit - progress.read + 65536) (S.left source.old) (S.left source.new) }
+    ensures kept { S.faults source.old ≤ S.faults source.new }
+{
+    if progress.ended {
+        return Ok(progress);
+    }
+    let all = fill(source, held, progress.read, limit, usize::MAX)?;
+    if !all.ended {
+        return Err(Status::NoMemory);
+    }
+    Ok(all)
 }
 
 /// Writes the text. A sink that fails has taken a part of it.

@@ -1,6 +1,7 @@
 //! A table's text, read as a frame: in place where it is plain, and else by `csv`, which tells each
 //! fault at its place.
 
+pub mod blocks;
 mod builder;
 mod cell;
 mod header;
@@ -9,7 +10,7 @@ mod plain;
 #[cfg(test)]
 mod tests;
 
-ghost use Rattle.std.specs.Prelude.{◌≡◌, ◌≤◌, ◌++◌, [], true, length, map, All, Ok, Err, OnOk, OnErr, IfOk, IfErr};
+ghost use Rattle.std.specs.Prelude.{◌≡◌, ◌≤◌, ◌++◌, [], List, ℕ, true, length, map, All, Ok, Err, OnOk, OnErr, IfOk, IfErr};
 ghost use Rattle.std.specs.List.{cons_option, filter_map};
 ghost use Rattle.gb_defs.specs.Column.{IsFrame, rechunked};
 ghost use Rattle.gb_defs.specs.Table.{table};
@@ -18,7 +19,9 @@ ghost use Rattle.gb_tool.specs.Asked.{asked_table, names_in};
 ghost use Rattle.gb_tool.specs.Building.{IsRoomy, IsWhole, read_if_kept};
 ghost use Rattle.gb_tool.specs.Builder.{read_in};
 ghost use Rattle.gb_tool.specs.Refusal.{IsRefusedTable};
+ghost use Rattle.gb_tool.specs.Stream.{IsFront, IsSomeFront, rows_read};
 ghost use Rattle.gb_tool.specs.Table.{GivesRecords, HasRecordsOf, columns_with, left_of};
+ghost use Rattle.gb_tool.specs.Taking.{IsFewTaking, IsTaking};
 ghost use Rattle.csv.specs.Reading.{ReadRecord};
 ghost use Rattle.csv.specs.Records.{AllText, fields_of};
 
@@ -214,8 +217,29 @@ fn csv_table(
     if !found {
         return Err(TableError::Fault(TableFault::NoHeader));
     }
-    let mut columns = columns_of_header(alloc, &fields, names)?;
-    for row in 1..u64::MAX {
+    let columns = columns_of_header(alloc, &fields, names)?;
+    let frame = csv_rows(reader, columns, 1, null_word)?;
+    Ok(frame)
+}
+
+// The frame of the columns that have read so many rows of a table, the header among them, with those that
+// the reader has yet to give.
+fn csv_rows(
+    mut reader: Reader<&[u8]>,
+    mut columns: Vec<ColumnBuilder>,
+    rows: u64,
+    null_word: &str,
+) -> Result<DataFrame, TableError>
+    requires { IsFewTaking null_word.now rows columns.items reader }
+    ensures ok { IfOk result (λ frame. (names : List (List ℕ)) (bytes : List ℕ) →
+        IsTaking names null_word.now bytes rows columns.items reader.entry →
+        asked_table names bytes null_word.now ≡ Ok (map rechunked frame)) }
+    ensures err { IfErr result (λ e. (names : List (List ℕ)) (bytes : List ℕ) →
+        IsTaking names null_word.now bytes rows columns.items reader.entry →
+        IsRefusedTable e (table bytes null_word.now)) }
+{
+    let mut fields = ByteRecord::new(*columns.allocator());
+    for row in rows..u64::MAX {
         let found = read_record(&mut reader, &mut fields)?;
         if !found {
             return Ok(frame_of(columns)?);
@@ -223,4 +247,39 @@ fn csv_table(
         push_record(&mut columns, &fields, row, null_word)?;
     }
     Err(TableError::NoMemory)
+}
+
+// How many rows columns have read, by the first of them.
+fn count_rows(columns: &[ColumnBuilder]) -> usize
+    ensures { result ≡ rows_read columns.now }
+{
+    match columns.first() {
+        Some(column) => column.len(),
+        None => 0,
+    }
+}
+
+// The frame of the columns, and of all that is held behind what they have read, by `csv`.
+fn csv_behind(
+    alloc: Global,
+    columns: Vec<ColumnBuilder>,
+    mut held: Vec<u8>,
+    null_word: &str,
+) -> Result<DataFrame, TableError>
+    requires { IsSomeFront null_word.now held.items columns.items }
+    ensures ok { IfOk result (λ frame.
+        (names header : List (List ℕ)) (bytes : List ℕ) → length bytes ≤ 4294967295 →
+        IsFront names null_word.now header bytes held.items columns.items →
+        asked_table names bytes null_word.now ≡ Ok (map rechunked frame)) }
+    ensures err { IfErr result (λ e.
+        (names header : List (List ℕ)) (bytes : List ℕ) → length bytes ≤ 4294967295 →
+        IsFront names null_word.now header bytes held.items columns.items →
+        IsRefusedTable e (table bytes null_word.now)) }
+{
+    // Behind a line feed nothing is a byte order mark.
+    held.insert(0, b'\n')?;
+    let reader = reader_of(alloc, &held);
+    let rows = count_rows(&columns) as u64 + 1;
+    let frame = csv_rows(reader, columns, rows, null_word)?;
+    Ok(frame)
 }

@@ -1,7 +1,7 @@
 //! A column while its cells are read. Categories are read as texts, which get their codes as a whole
 //! once all of them are there. Of a column that nobody asks for, cells are only checked.
 
-ghost use Rattle.std.specs.Prelude.{◌≡◌, ℕ, List, [], true, option_map, IfOk, OnErr, OnOk};
+ghost use Rattle.std.specs.Prelude.{◌≡◌, ℕ, List, [], length, true, option_map, IfOk, OnErr, OnOk};
 ghost use Rattle.std.specs.Bool.{OnFalse, OnTrue};
 ghost use Rattle.std.specs.Str.{IsUtf8};
 ghost use Rattle.gb_defs.specs.Table.{Head};
@@ -108,6 +108,16 @@ impl Cells {
         }
     }
 
+    // How many cells were kept.
+    fn len(&self) -> usize
+        ensures { result ≡ length (slots_in self.now).slots }
+    {
+        match self {
+            Cells::Slots(column) => column.len(),
+            Cells::Texts(texts, _) => texts.len(),
+        }
+    }
+
     // The column of the cells.
     fn finish(self) -> Result<Series, AllocError>
         requires takes { TakesCells self }
@@ -181,6 +191,16 @@ impl ColumnBuilder {
                 checked: Some(0),
                 passes_digits,
             }
+        }
+    }
+
+    /// How many cells were read.
+    pub fn len(&self) -> usize
+        ensures { result ≡ length self.now.column.slots }
+    {
+        match self.checked {
+            Some(count) => count,
+            None => self.cells.len(),
         }
     }
 

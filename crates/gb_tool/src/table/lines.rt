@@ -5,7 +5,7 @@ ghost use Rattle.std.specs.Bool.{OnTrue};
 ghost use Rattle.std.specs.Str.{IsAscii};
 ghost use Rattle.csv.specs.Records.{fields_of};
 ghost use Rattle.gb_tool.specs.Building.{in_one_chunk};
-ghost use Rattle.gb_tool.specs.Part.{AreCuts, HasFew, HasPart, IsHeaderRefused, IsWith, ReadsPart, emptied, joined};
+ghost use Rattle.gb_tool.specs.Part.{AreCuts, HasFew, HasPart, IsHeaderRefused, IsWith, ReadsPart, emptied, joined, last_cut};
 
 use crate::status::TableError;
 use crate::table::builder::ColumnBuilder;
@@ -82,7 +82,7 @@ impl Lines<'_> {
         requires few { length self.now.text.now ≤ 4294967295 }
         requires ascii { self.now.ascii ≡ true → IsAscii self.now.text.now }
         ensures ok { IfOk result (λ found. IfSome found (λ columns.
-            HasPart self.now 0 (length self.now.text.now) columns.items)) }
+            HasPart self.now 0 (last_cut cuts.now) columns.items)) }
         ensures err { IfErr result (IsHeaderRefused self.now) }
     {
         let part = |k: usize| -> Result<Option<Vec<ColumnBuilder>>, TableError>
@@ -103,28 +103,30 @@ impl Lines<'_> {
         Ok(all)
     }
 
-    /// The columns of all lines, read in so many parts, or else in one. None where some line is not plain,
-    /// or does not read. With one part no thread is started.
-    pub fn read_all<R: Threads + Sync>(
+    /// The columns of the lines up to a place, read in so many parts, or else in one. None where some line is
+    /// not plain, does not read, or does not end there. With one part no thread is started.
+    pub fn read_to<R: Threads + Sync>(
         &self,
         rt: &R,
         alloc: Global,
+        to: usize,
         parts: usize,
     ) -> Result<Option<Vec<ColumnBuilder>>, TableError>
         requires some { 1 ≤ parts }
+        requires to { to ≤ length self.now.text.now }
         requires few { length self.now.text.now ≤ 4294967295 }
         requires ascii { self.now.ascii ≡ true → IsAscii self.now.text.now }
         ensures ok { IfOk result (λ found. IfSome found (λ columns.
-            HasPart self.now 0 (length self.now.text.now) columns.items)) }
+            HasPart self.now 0 to columns.items)) }
         ensures err { IfErr result (IsHeaderRefused self.now) }
     {
-        let cuts = cuts_of(alloc, self.text, parts)?;
+        let cuts = cuts_of(alloc, &self.text[..to], parts)?;
         let found = self.read_parts(rt, alloc, &cuts)?;
         if found.is_some() || parts == 1 {
             return Ok(found);
         }
         // A cut may stand between quotes.
-        self.read(alloc, 0, self.text.len())
+        self.read(alloc, 0, to)
     }
 }
 
@@ -155,8 +157,8 @@ fn with_columns(
     }
 }
 
-// Puts the slots of each column behind those of the column at its place.
-fn append_columns(
+/// Puts the slots of each column behind those of the column at its place.
+pub fn append_columns(
     columns: &mut Vec<ColumnBuilder>,
     others: Vec<ColumnBuilder>,
 ) -> Result<(), AllocError>
@@ -192,7 +194,8 @@ fn line_behind(text: &[u8], place: usize) -> usize
 // Places from the front of a text to its end that deal it out to so many, with line ends before them.
 fn cuts_of(alloc: Global, text: &[u8], parts: usize) -> Result<Vec<usize>, AllocError>
     requires { 1 ≤ parts }
-    ensures { IfOk result (λ cuts. AreCuts (length text.now) cuts.items) }
+    ensures cuts { IfOk result (λ cuts. AreCuts (length text.now) cuts.items) }
+    ensures end { IfOk result (λ cuts. last_cut cuts.items ≡ length text.now) }
 {
     let each = text.len() / parts;
     let mut cuts = Vec::new(alloc);

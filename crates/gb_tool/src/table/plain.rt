@@ -24,8 +24,8 @@ use gb_series::frame::DataFrame;
 use std::alloc::{AllocError, Global};
 use std::thread::Threads;
 
-// The record in front of a text, and the text behind it.
-fn plain_header(alloc: Global, text: &[u8]) -> Result<Option<(ByteRecord, &[u8])>, AllocError>
+/// The record in front of a text, and the text behind it. None where it is not plain.
+pub fn plain_header(alloc: Global, text: &[u8]) -> Result<Option<(ByteRecord, &[u8])>, AllocError>
     ensures { IfOk result (λ cut. IfSome cut (λ h. BeginsWith (fields_of h.0) text.now h.1.now)) }
 {
     let mut fields = ByteRecord::new(alloc);
@@ -117,8 +117,8 @@ pub fn is_line_end(first: u8) -> bool
     first == b'\n' || first == b'\r'
 }
 
-// The bytes behind a byte order mark, where they begin with one.
-fn without_mark(bytes: &[u8]) -> &[u8]
+/// The bytes behind a byte order mark, where they begin with one.
+pub fn without_mark(bytes: &[u8]) -> &[u8]
     ensures { result.now ≡ strip_bom bytes.now }
 {
     if bytes.len() > 2 && bytes[0] == 0xEF && bytes[1] == 0xBB && bytes[2] == 0xBF {
@@ -157,7 +157,7 @@ pub fn plain_table<R: Threads + Sync>(
         text,
         ascii: text.is_ascii(),
     };
-    let Some(columns) = lines.read_all(rt, alloc, parts)? else {
+    let Some(columns) = lines.read_to(rt, alloc, text.len(), parts)? else {
         return Ok(None);
     };
     Ok(Some(frame_of(columns)?))

@@ -1,10 +1,13 @@
 //! Tables that read, and faults at their places.
 
-ghost use Rattle.std.specs.Prelude.{◌≤◌, length};
+ghost use Rattle.std.specs.Prelude.{◌≤◌, ◌<◌, length};
 
+use super::blocks::{Reading, read_table};
 use super::plain::plain_table;
 use super::{csv_table, table_of};
-use crate::status::{TableError, TableFault};
+use crate::status::{Status, TableError, TableFault};
+use gb_base::device::{Failed, Source};
+use gb_base::memory::SoundSource;
 use gb_cols::series_trait::SeriesTrait;
 use gb_series::frame::DataFrame;
 use gb_series::series::Series;
@@ -311,6 +314,101 @@ fn tables_in_parts(rt: HostRuntime) -> Result<(), Fail> {
                 let text = repeated(alloc, long, count, end)?;
                 assert!(rt; are_alike(&rt, alloc, text.as_slice(), sure)?, "{text:?}");
             }
+        }
+    }
+    Ok(())
+}
+
+// ---- a table read from its source block by block
+
+/// A source that gives at most so many bytes a call.
+#[derive(Drop)]
+struct SlowSource {
+    inner: SoundSource,
+    most: usize,
+    ghost some: { 0 < most },
+}
+
+impl Source for SlowSource {
+    ghost use Rattle.gb_base.specs.Memory.{bytes_left};
+    ghost use Rattle.std.specs.Prelude.{Some};
+
+    ghost left = { λ s. Some (bytes_left s.inner) };
+
+    ghost faults = { λ _. 0 };
+
+    fn read(&mut self, room: &mut [u8]) -> Result<usize, Failed> {
+        let count = room.len().min(self.most);
+        self.inner.read(&mut room[..count])
+    }
+}
+
+// The cells of a table that is read from a source of slow pieces, in blocks of so many bytes, if it reads.
+fn shown_in_blocks<R: Threads + Sync>(
+    rt: &R,
+    alloc: Global,
+    text: &[u8],
+    block: usize,
+) -> Result<Option<Vec<u8>>, AllocError>
+    requires { 0 < block }
+{
+    let inner = SoundSource::new(Vec::from_slice(alloc, text)?);
+    let mut source = SlowSource { inner, most: block };
+    let reading = Reading {
+        names: &NAMES,
+        null_word: "",
+        workers: 2,
+        block,
+    };
+    match read_table(rt, alloc, &mut source, 1000, &reading) {
+        Ok(frame) => Ok(Some(shown(alloc, &frame)?)),
+        Err(Status::Table(_)) => Ok(None),
+        Err(_) => Err(AllocError),
+    }
+}
+
+// Whether a table is read in blocks of several sizes as `csv` reads it.
+fn are_alike_in_blocks<R: Threads + Sync>(
+    rt: &R,
+    alloc: Global,
+    text: &[u8],
+) -> Result<bool, Fail> {
+    if text.len() > 1000 {
+        return Ok(false);
+    }
+    let whole = shown_by_csv(alloc, text)?;
+    for step in 1..6 {
+        let found = shown_in_blocks(rt, alloc, text, 13 * step)?;
+        if found != whole {
+            return Ok(false);
+        }
+    }
+    Ok(true)
+}
+
+#[test]
+fn tables_in_blocks(rt: HostRuntime) -> Result<(), Fail> {
+    let alloc = rt.alloc();
+    let ends: [&[u8]; 11] = [
+        b"",
+        b"a,1,x,last",
+        b"a,1,x,\xC3\xA9\n",
+        b"a,1,x,last\r\na,1,x,last\rb,,,\r",
+        b"\n\r\n\na,1,x,last\n\n",
+        b"a,1,x,\"q\n,\"\nb,2,,\"\n\n\"\n\xEF\xBB\xBF,3,,\n",
+        b"a,1,x,\"q\"q\n\xEF\xBB\xBF,3,,\n",
+        b"a,1,x,\"q\n",
+        b"a,1,x\nb,2,x\n",
+        b"a,1,x,y\na,bad,x,last\nb,2\n",
+        b"a,1,x,\xFF\n",
+    ];
+    for end in ends {
+        for count in 1..4 {
+            let text = repeated(alloc, count, count, end)?;
+            assert!(rt;
+                are_alike_in_blocks(&rt, alloc, text.as_slice())?,
+                "{text:?}"
+            );
         }
     }
     Ok(())

@@ -8,4 +8,4 @@ pub returns-then-first-eq10 : goal.returns-then-first-eq10
 returns-then-first-eq10 c = rw (c.in-Some.ensures.cases.0, c.if-first-eq10.true) (returned_feed c.in-Some.rest.now)
 
 pub returns : goal.returns
-returns c = rw c.in-Some.ensures.cases.0 (returned_other c.in-Some.first.now c.in-Some.rest.now c.if-first-eq10.false)
+returns c = rw c.in-Some.ensures.cases.0 (returned_other c.in-Some.first.now c.in-Some.rest.now)

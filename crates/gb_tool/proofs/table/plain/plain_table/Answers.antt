@@ -9,8 +9,8 @@ use Rattle.gb_tool.proofs.PlainTableLemmas.{headed, plain_end, plain_frame, plai
 use Rattle.gb_tool.proofs.ReadingLemmas.{refused_too}
 use Rattle.gb_tool.proofs.table.plain.plain_table.Goals as goal
 
-pub read_all-requires-clause-few : goal.read_all-requires-clause-few
-read_all-requires-clause-few g c κs within =
+pub read_to-requires-clause-few : goal.read_to-requires-clause-few
+read_to-requires-clause-few g c κs within =
     let bytes = c.args.bytes.now in
     let begins = rw c.in-Some.is at c.in_ok-header.ensures in
     let some : 0 < length c.without_mark-text.result.now = grind (arith, nat_tests, c.if-is_empty.ensures) in
