@@ -57,6 +57,19 @@ moved_none held (Some rest) = record { piece = []; long = refl; bytes_is = sym (
 pub filled_none : (read : ℕ) (held : List ℕ) (left : Option (List ℕ)) → HasFilled read read held held left left
 filled_none read held left = record { count = 0; counted = omega arith; moved = moved_none held left }
 
+-- behind other bytes
+pub filled_front : (front : List ℕ) (read now : ℕ) (a b : List ℕ) (first last : Option (List ℕ)) → HasFilled read now a b first last → HasFilled read now (front ++ a) (front ++ b) first last
+filled_front front read now a b first last f = record {
+  count = f.count;
+  counted = f.counted;
+  moved = record {
+    piece = f.moved.piece;
+    long = f.moved.long;
+    bytes_is = ap (λ xs. front ++ xs) f.moved.bytes_is ∙ sym (append_assoc front a f.moved.piece);
+    left_is = f.moved.left_is;
+  };
+}
+
 module _ (read now : ℕ) (a b : List ℕ) (first last : Option (List ℕ)) (f : HasFilled read now a b first last) where
   pub filled_more : (count : ℕ) (c : List ℕ) (after : Option (List ℕ)) → HasMoved count b c last after → HasFilled read (now + count) a c first after
   filled_more count c after m = record { count = f.count + count; counted = omega (arith, f.counted); moved = moved_more f.count count a b c first last after f.moved m }

@@ -1,5 +1,7 @@
 -- A table that is read from its source block by block: what was read, and what it comes to.
-use Rattle.std.specs.Prelude.{◌≡◌, ◌≢◌, ℕ, ◌+◌, ◌<◌, ◌≤◌, List, [], ◌∷◌, ◌++◌, length, map, get_or, drop, Option, IfSome, option_map, Ok, Err}
+use Rattle.std.specs.Prelude.{◌≡◌, ◌≢◌, ℕ, ◌+◌, ◌-◌, ◌<◌, ◌≤◌, List, [], ◌∷◌, ◌++◌, length, map, get_or, drop, Option, IfErr, IfOk, IfSome, option_map, Result, Ok, Err}
+use Rattle.std.specs.Bool.{OnTrue}
+use Rattle.std.specs.Str.{IsAscii}
 use Rattle.csv.specs.Reading.{strip_bom}
 use Rattle.csv.specs.Records.{fields_of}
 use Rattle.gb_base.specs.Device.{Rose}
@@ -9,9 +11,10 @@ use Rattle.gb_tool.specs.Asked.{is_asked}
 use Rattle.gb_tool.specs.Building.{Building, in_one_chunk}
 use Rattle.gb_tool.specs.Part.{IsPart}
 use Rattle.gb_tool.specs.Plain.{BeginsWith, IsBehind}
-use Rattle.gb_tool.specs.Run.{HasMoved, IsReadToEnd, IsRefusedReport}
+use Rattle.gb_tool.specs.Run.{HasMoved, HasTaken, IsInputFault, IsReadToEnd, IsRefusedReport}
 use Rattle.gb_tool.specs.Status.{fault_value}
 use Rattle.gb_tool.specs.Table.{columns_of_header}
+use Rattle.gb_tool.specs.declared.streams.Progress.{Progress}
 use Rattle.gb_tool.specs.declared.table.blocks.Start.{Start}
 use Rattle.gb_tool.specs.declared.status.Status.{Status}
 use Rattle.gb_tool.specs.declared.status.Status.TheVariants.{Table, ReadFault, TooLong, NoMemory}
@@ -23,6 +26,16 @@ pub record HasFilled (read read_after : ℕ) (held held_after : List ℕ) (befor
   pub count : ℕ
   pub counted : read_after ≡ read + count
   pub moved : HasMoved count held held_after before after
+
+-- what it came to to move the next bytes of a source behind those that are held, of an input of which so many were read before
+pub record IsFilled (limit read : ℕ) (held held_after : List ℕ) (before after : Option (List ℕ)) (faults faults_after : ℕ) (result : Result Progress Status) : Type 0 where
+  pub filled : IfOk result (λ p. HasFilled read p.read held held_after before after)
+  pub within : IfOk result (λ p. p.read ≤ limit)
+  pub ended : IfOk result (λ p. OnTrue p.ended (IfSome after (λ rest. rest ≡ [])))
+  pub ascii : IfOk result (λ p. OnTrue p.ascii (IsAscii held_after))
+  pub err : IfErr result (λ s. IsInputFault faults faults_after (limit - read) before s)
+  pub taken : result ≢ Err ReadFault → HasTaken (limit - read + 65536) before after
+  pub kept : faults ≤ faults_after
 
 -- the source had bytes within the limit of which this holds, and all were read
 pub record HasReadAll (limit : ℕ) (before after : Option (List ℕ)) (P : List ℕ → Type 0) : Type 0 where

@@ -2,9 +2,10 @@
 
 ghost use Rattle.std.specs.Prelude.{◌≡◌, ◌≢◌, ◌≤◌, ◌+◌, ◌-◌, ◌<◌, ◌++◌, [], length, Err, IfErr, IfOk, IfSome, OnErr, OnOk, Some, option_map};
 ghost use Rattle.std.specs.Bool.{OnFalse, OnTrue};
+ghost use Rattle.std.specs.Str.{IsAscii};
 ghost use Rattle.gb_base.specs.Device.{Rose};
-ghost use Rattle.gb_tool.specs.Run.{HasMoved, HasTaken, Holds, HoldsPart, IsInputFault, IsPieceFault};
-ghost use Rattle.gb_tool.specs.Stream.{HasFilled};
+ghost use Rattle.gb_tool.specs.Run.{HasMoved, HasTaken, Holds, HoldsPart, IsPieceFault};
+ghost use Rattle.gb_tool.specs.Stream.{IsFilled};
 ghost use Rattle.gb_tool.specs.declared.status.Status.TheVariants as status;
 
 use crate::status::Status;
@@ -37,11 +38,13 @@ fn read_piece<S: Source>(source: &mut S, bytes: &mut Vec<u8>) -> Result<usize, S
     }
 }
 
-/// How many bytes of the input were read, and whether it has ended.
+/// How many bytes of the input were read, whether it has ended, and whether those that are held are known to
+/// be ASCII.
 #[derive(Clone, Copy)]
 pub struct Progress {
     pub read: u64,
     pub ended: bool,
+    pub ascii: bool,
 }
 
 /// Moves the next bytes of the source behind those that are held, until these are at least so many or the
@@ -55,18 +58,9 @@ pub fn fill<S: Source>(
 ) -> Result<Progress, Status>
     requires within { read ≤ limit }
     requires limit { limit ≤ 4294967295 }
-    ensures filled { IfOk result (λ p.
-        HasFilled read p.read held.old.items held.new.items
-        (S.left source.old) (S.left source.new)) }
-    ensures within { IfOk result (λ p. p.read ≤ limit) }
+    ensures filled { IsFilled limit read held.old.items held.new.items (S.left source.old)
+        (S.left source.new) (S.faults source.old) (S.faults source.new) result }
     ensures enough { IfOk result (λ p. OnFalse p.ended (enough ≤ length held.new.items)) }
-    ensures ended { IfOk result (λ p. OnTrue p.ended
-        (IfSome (S.left source.new) (λ rest. rest ≡ []))) }
-    ensures err { IfErr result (λ s. IsInputFault
-        (S.faults source.old) (S.faults source.new) (limit - read) (S.left source.old) s) }
-    ensures taken { result ≢ Err status.ReadFault
-        → HasTaken (limit - read + 65536) (S.left source.old) (S.left source.new) }
-    ensures kept { S.faults source.old ≤ S.faults source.new }
 {
     let mut now = read;
     // The label names the loop in its proof.
@@ -75,6 +69,7 @@ pub fn fill<S: Source>(
             return Ok(Progress {
                 read: now,
                 ended: false,
+                ascii: held.is_ascii(),
             });
         }
         let count = read_piece(source, held)?;
@@ -82,6 +77,7 @@ pub fn fill<S: Source>(
             return Ok(Progress {
                 read: now,
                 ended: true,
+                ascii: held.is_ascii(),
             });
         }
         now += count as u64;
@@ -102,15 +98,10 @@ pub fn fill_all<S: Source>(
     requires within { progress.read ≤ limit }
     requires limit { limit ≤ 4294967295 }
     requires ended { OnTrue progress.ended (IfSome (S.left source.old) (λ rest. rest ≡ [])) }
-    ensures filled { IfOk result (λ p. HasFilled progress.read p.read
-        held.old.items held.new.items (S.left source.old) (S.left source.new)) }
-    ensures within { IfOk result (λ p. p.read ≤ limit) }
+    requires ascii { OnTrue progress.ascii (IsAscii held.old.items) }
+    ensures filled { IsFilled limit progress.read held.old.items held.new.items
+        (S.left source.old) (S.left source.new) (S.faults source.old) (S.faults source.new) result }
     ensures ended { OnOk result (IfSome (S.left source.new) (λ rest. rest ≡ [])) }
-    ensures err { IfErr result (λ s. IsInputFault (S.faults source.old) (S.faults source.new)
-        (limit - progress.read) (S.left source.old) s) }
-    ensures taken { result ≢ Err status.ReadFault
-        → HasTaken (limit - progress.read + 65536) (S.left source.old) (S.left source.new) }
-    ensures kept { S.faults source.old ≤ S.faults source.new }
 {
     if progress.ended {
         return Ok(progress);

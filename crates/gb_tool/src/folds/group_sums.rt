@@ -2,7 +2,7 @@
 
 ghost use Rattle.std.specs.Prelude.{◌≡◌, option_map, IfOk, IfErr};
 ghost use Rattle.gb_defs.specs.Column.{ColumnValue};
-ghost use Rattle.gb_defs.specs.ColumnType.{Flat};
+ghost use Rattle.gb_defs.specs.ColumnType.{Boolean, Flat, uint32};
 ghost use Rattle.gb_defs.specs.Fold.{Sum};
 ghost use Rattle.gb_defs.specs.Groups.{lists_in};
 ghost use Rattle.gb_base.specs.PlSmallStr.{IsNoMemory, name_of};
@@ -52,7 +52,8 @@ impl<T: PolarsNumericType> GroupSums for ChunkedArray<NumberValues<T>> {
     }
 }
 
-// The sums of a column of numbers, in its type.
+// The sums of a column of numbers, in its type. Several chunks are put into one first, since the rows of a
+// group stand in all of them, and the chunk of a row is found by going through them.
 fn number_sums<T: PolarsNumericType>(
     name: PlSmallStr,
     column: &ChunkedArray<NumberValues<T>>,
@@ -64,7 +65,32 @@ fn number_sums<T: PolarsNumericType>(
         (fold_in Sum column.now) (lists_in (groups_of groups.now))) }
     ensures err { IfErr result IsNoMemory }
 {
-    fold_groups(column.allocator(), name, &SumOf::new(column), groups)
+    let alloc = column.allocator();
+    if column.n_chunks() == 1 {
+        return fold_groups(alloc, name, &SumOf::new(column), groups);
+    }
+    let whole = column.rechunk()?;
+    fold_groups(alloc, name, &SumOf::new(&whole), groups)
+}
+
+// How many flags of a column are true, as `number_sums`.
+fn flag_sums(
+    name: PlSmallStr,
+    column: &BooleanChunked,
+    groups: &GroupsType,
+) -> PolarsResult<UInt32Chunked>
+    requires { AreGroupsOf column.now (groups_of groups.now) }
+    ensures typed { column.now.dtype ≡ Flat Boolean }
+    ensures ok { IfOk result (λ c. c ≡ fold_column (name_of name) uint32
+        (fold_in Sum column.now) (lists_in (groups_of groups.now))) }
+    ensures err { IfErr result IsNoMemory }
+{
+    let alloc = column.allocator();
+    if column.n_chunks() == 1 {
+        return fold_groups(alloc, name, &FlagSum::new(column), groups);
+    }
+    let whole = column.rechunk()?;
+    fold_groups(alloc, name, &FlagSum::new(&whole), groups)
 }
 
 // How many flags are true is a number of 32 bits.
@@ -78,8 +104,7 @@ impl GroupSums for BooleanChunked {
         name: PlSmallStr,
         groups: &GroupsType,
     ) -> PolarsResult<Option<UInt32Chunked>> {
-        let sums = fold_groups(self.allocator(), name, &FlagSum::new(self), groups)?;
-        Ok(Some(sums))
+        Ok(Some(flag_sums(name, self, groups)?))
     }
 }
 

@@ -1,17 +1,18 @@
 //! A table read from its source block by block, so that its text is not held whole. Whole lines of a block are
-//! read by all workers, and what is left of it stands in front of the next.
+//! read by all workers, while the next is moved from the source behind what is left of it.
 
-ghost use Rattle.std.specs.Prelude.{◌≡◌, ◌≢◌, ◌≤◌, ◌+◌, ◌<◌, [], List, ℕ, Option, Err, Ok, drop, length, map, IfErr, IfOk, IfSome, OnOk};
-ghost use Rattle.std.specs.Bool.{OnFalse, OnTrue};
+ghost use Rattle.std.specs.Prelude.{◌≡◌, ◌≢◌, ◌≤◌, ◌+◌, ◌<◌, [], List, ℕ, Option, Err, Ok, true, drop, length, map, IfErr, IfOk, IfSome, OnOk};
+ghost use Rattle.std.specs.Bool.{OnTrue};
+ghost use Rattle.std.specs.Str.{IsAscii};
 ghost use Rattle.csv.specs.Records.{fields_of};
 ghost use Rattle.gb_defs.specs.Column.{rechunked};
 ghost use Rattle.gb_defs.specs.Table.{table};
 ghost use Rattle.gb_tool.specs.Asked.{asked_table, names_in};
 ghost use Rattle.gb_tool.specs.Building.{in_one_chunk};
-ghost use Rattle.gb_tool.specs.Part.{IsPart};
+ghost use Rattle.gb_tool.specs.Part.{HasPart, IsHeaderRefused};
 ghost use Rattle.gb_tool.specs.Refusal.{IsRefusedTable};
 ghost use Rattle.gb_tool.specs.Run.{HasTaken};
-ghost use Rattle.gb_tool.specs.Stream.{HasReadAll, IsFewFront, IsFront, IsRefusedInput, IsSomeStreamed, IsStarted, IsStreamed};
+ghost use Rattle.gb_tool.specs.Stream.{HasReadAll, IsFewFront, IsFilled, IsFront, IsRefusedInput, IsSomeStreamed, IsStarted, IsStreamed};
 ghost use Rattle.gb_tool.specs.declared.status.Status.TheVariants as status;
 
 use crate::status::{Status, TableError};
@@ -25,7 +26,8 @@ use csv::ByteRecord;
 use gb_base::device::Source;
 use gb_series::frame::DataFrame;
 use std::alloc::{AllocError, Global};
-use std::thread::Threads;
+use std::mem::swap;
+use std::thread::{Threads, join_mut};
 
 /// What a table is read for, and how.
 #[derive(Clone, Copy)]
@@ -96,53 +98,145 @@ fn last_line(text: &[u8]) -> Option<usize>
     None
 }
 
-// Moves the lines of a block, but for the last, to the ends of the columns. False where the source has ended,
-// where they are not plain or do not read, or where there is one line alone: then nothing has changed.
-fn push_block<R: Threads + Sync>(
+// What is held of a table, the room for the block behind it, and how far the source was read.
+#[derive(Drop)]
+struct Window {
+    held: Vec<u8>,
+    next: Vec<u8>,
+    now: Progress,
+}
+
+// The columns of the lines up to a place, read in so many parts, while the next bytes of the source are
+// moved behind those of another text. With one part no thread is started.
+fn read_ahead<R: Threads + Sync, S: Source>(
     rt: &R,
     alloc: Global,
+    lines: &Lines<'_>,
+    place: usize,
+    parts: usize,
+    source: &mut S,
+    next: &mut Vec<u8>,
+    read: u64,
+    limit: u64,
+    enough: usize,
+) -> (
+    Result<Option<Vec<ColumnBuilder>>, TableError>,
+    Result<Progress, Status>,
+)
+    requires parts { 1 ≤ parts }
+    requires place { place ≤ length lines.now.text.now }
+    requires few { length lines.now.text.now ≤ 4294967295 }
+    requires ascii { lines.now.ascii ≡ true → IsAscii lines.now.text.now }
+    requires within { read ≤ limit }
+    requires limit { limit ≤ 4294967295 }
+    ensures ok { IfOk result.0 (λ found. IfSome found (λ columns.
+        HasPart lines.now 0 place columns.items)) }
+    ensures err { IfErr result.0 (IsHeaderRefused lines.now) }
+    ensures filled { IsFilled limit read next.old.items next.new.items (S.left source.old)
+        (S.left source.new) (S.faults source.old) (S.faults source.new) result.1 }
+{
+    if parts == 1 {
+        let found = lines.read_to(rt, alloc, place, 1);
+        return (found, fill(source, next, read, limit, enough));
+    }
+    join_mut(
+        rt,
+        &mut || -> Result<Option<Vec<ColumnBuilder>>, TableError>
+            requires { (1 ≤ parts)
+                × (place ≤ length lines.now.text.now)
+                × (length lines.now.text.now ≤ 4294967295)
+                × (lines.now.ascii ≡ true → IsAscii lines.now.text.now) }
+        { lines.read_to(rt, alloc, place, parts) },
+        &mut || fill(source, next, read, limit, enough),
+    )
+}
+
+// Moves the lines of a block, but for the last, to the ends of the columns, and the next bytes of the source
+// behind the last. False where the source has ended, where the lines are not plain or do not read, or where
+// there is one line alone: then the columns are as they were.
+fn push_block<R: Threads + Sync, S: Source>(
+    rt: &R,
+    alloc: Global,
+    source: &mut S,
+    limit: u64,
     reading: &Reading<'_>,
     header: &ByteRecord,
     columns: &mut Vec<ColumnBuilder>,
-    held: &mut Vec<u8>,
-    ended: bool,
+    window: &mut Window,
 ) -> Result<bool, Status>
-    requires { IsFewFront (names_in reading.now.names.now) reading.now.null_word.now
-        (fields_of header.now) held.old.items columns.old.items }
-    ensures took { IfOk result (λ took. OnTrue took ((bytes : List ℕ) →
-        IsFront (names_in reading.now.names.now) reading.now.null_word.now
-        (fields_of header.now) bytes held.old.items columns.old.items →
-        IsFront (names_in reading.now.names.now) reading.now.null_word.now
-        (fields_of header.now) bytes held.new.items columns.new.items)) }
-    ensures some { IfOk result (λ took. OnTrue took (0 < length held.new.items)) }
-    ensures refused { IfOk result (λ took. OnFalse took
-        ((held.new ≡ held.old) × (columns.new ≡ columns.old))) }
-    ensures err { IfErr result (λ s. s ≡ status.NoMemory) }
+    requires limit { limit ≤ 4294967295 }
+    requires streamed { IsSomeStreamed (names_in reading.now.names.now) reading.now.null_word.now
+        (fields_of header.now) limit (S.left source.old) window.old.now.read
+        window.old.held.items columns.old.items }
+    requires ended { OnTrue window.old.now.ended (IfSome (S.left source.old) (λ rest. rest ≡ [])) }
+    requires ascii { OnTrue window.old.now.ascii (IsAscii window.old.held.items) }
+    ensures ok { OnOk result ((first : Option (List ℕ)) → IsStreamed
+        (names_in reading.now.names.now) reading.now.null_word.now (fields_of header.now)
+        limit first (S.left source.old) window.old.now.read window.old.held.items columns.old.items
+        → IsStreamed
+        (names_in reading.now.names.now) reading.now.null_word.now (fields_of header.now)
+        limit first (S.left source.new) window.new.now.read window.new.held.items columns.new.items) }
+    ensures ended { OnOk result
+        (OnTrue window.new.now.ended (IfSome (S.left source.new) (λ rest. rest ≡ []))) }
+    ensures ascii { OnOk result (OnTrue window.new.now.ascii (IsAscii window.new.held.items)) }
+    ensures err { IfErr result (λ s. (first : Option (List ℕ)) → IsStreamed
+        (names_in reading.now.names.now) reading.now.null_word.now (fields_of header.now)
+        limit first (S.left source.old) window.old.now.read window.old.held.items columns.old.items
+        → IsRefusedInput reading.now.null_word.now (S.faults source.old) (S.faults source.new)
+        limit first (S.left source.new) s) }
+    ensures taken { result ≢ Err status.ReadFault → (first : Option (List ℕ)) → IsStreamed
+        (names_in reading.now.names.now) reading.now.null_word.now (fields_of header.now)
+        limit first (S.left source.old) window.old.now.read window.old.held.items columns.old.items
+        → HasTaken (limit + 65536) first (S.left source.new) }
+    ensures kept { S.faults source.old ≤ S.faults source.new }
 {
-    if ended {
+    let Window { held, next, now } = window;
+    if now.ended {
         return Ok(false);
     }
     let Some(place) = last_line(held) else {
         return Ok(false);
     };
+    next.clear();
+    next.extend_from_slice(&held[place..])?;
     let lines = Lines {
         header,
         names: reading.names,
         null_word: reading.null_word,
         text: held.as_slice(),
-        ascii: held.is_ascii(),
+        ascii: now.ascii,
     };
     let parts = count_parts(place, reading.workers);
+    let (found, filled) = read_ahead(
+        rt,
+        alloc,
+        &lines,
+        place,
+        parts,
+        source,
+        next,
+        now.read,
+        limit,
+        reading.block,
+    );
+    *now = filled?;
     // The header is not at fault, so that an error is want of memory.
-    let Ok(found) = lines.read_to(rt, alloc, place, parts) else {
+    let Ok(found) = found else {
         return Err(Status::NoMemory);
     };
-    let Some(more) = found else {
-        return Ok(false);
-    };
-    append_columns(columns, more)?;
-    keep_from(held, place)?;
-    Ok(true)
+    match found {
+        Some(more) => {
+            append_columns(columns, more)?;
+            swap(held, next);
+            Ok(true)
+        }
+        None => {
+            held.truncate(place);
+            held.extend_from_slice(next)?;
+            now.ascii = false;
+            Ok(false)
+        }
+    }
 }
 
 // The frame of the columns and of all that is held behind them.
@@ -153,9 +247,11 @@ fn finish<R: Threads + Sync>(
     header: &ByteRecord,
     mut columns: Vec<ColumnBuilder>,
     held: Vec<u8>,
+    ascii: bool,
 ) -> Result<DataFrame, TableError>
-    requires { IsFewFront (names_in reading.now.names.now) reading.now.null_word.now
+    requires few { IsFewFront (names_in reading.now.names.now) reading.now.null_word.now
         (fields_of header.now) held.items columns.items }
+    requires ascii { OnTrue ascii (IsAscii held.items) }
     ensures ok { IfOk result (λ frame. (bytes : List ℕ) → length bytes ≤ 4294967295 →
         IsFront (names_in reading.now.names.now) reading.now.null_word.now
         (fields_of header.now) bytes held.items columns.items →
@@ -171,7 +267,7 @@ fn finish<R: Threads + Sync>(
         names: reading.names,
         null_word: reading.null_word,
         text: held.as_slice(),
-        ascii: held.is_ascii(),
+        ascii,
     };
     let parts = count_parts(lines.text.len(), reading.workers);
     // The header is not at fault, so that an error is want of memory.
@@ -203,6 +299,7 @@ fn finish_all<R: Threads + Sync, S: Source>(
     requires streamed { IsSomeStreamed (names_in reading.now.names.now) reading.now.null_word.now
         (fields_of header.now) limit (S.left source.old) now.read held.items columns.items }
     requires ended { OnTrue now.ended (IfSome (S.left source.old) (λ rest. rest ≡ [])) }
+    requires ascii { OnTrue now.ascii (IsAscii held.items) }
     ensures ok { IfOk result (λ frame. (first : Option (List ℕ)) → IsStreamed
         (names_in reading.now.names.now) reading.now.null_word.now (fields_of header.now)
         limit first (S.left source.old) now.read held.items columns.items →
@@ -220,8 +317,8 @@ fn finish_all<R: Threads + Sync, S: Source>(
         HasTaken (limit + 65536) first (S.left source.new) }
     ensures kept { S.faults source.old ≤ S.faults source.new }
 {
-    fill_all(source, &mut held, now, limit)?;
-    let frame = finish(rt, alloc, reading, header, columns, held)?;
+    let all = fill_all(source, &mut held, now, limit)?;
+    let frame = finish(rt, alloc, reading, header, columns, held, all.ascii)?;
     Ok(frame)
 }
 
@@ -268,23 +365,29 @@ pub fn read_table<R: Threads + Sync, S: Source>(
         lines,
     } = start;
     keep_from(&mut held, lines)?;
-    let mut now = fill(source, &mut held, first.read, limit, reading.block)?;
+    let now = fill(source, &mut held, first.read, limit, reading.block)?;
+    let mut window = Window {
+        held,
+        next: Vec::new(alloc),
+        now,
+    };
     'rounds: for _ in 0..u64::MAX {
         if !push_block(
             rt,
             alloc,
+            source,
+            limit,
             reading,
             &header,
             &mut columns,
-            &mut held,
-            now.ended,
+            &mut window,
         )? {
+            let Window { held, next: _, now } = window;
             let frame = finish_all(
                 rt, alloc, source, limit, reading, &header, columns, held, now,
             )?;
             return Ok(frame);
         }
-        now = fill(source, &mut held, now.read, limit, reading.block)?;
     }
     Err(Status::NoMemory)
 }

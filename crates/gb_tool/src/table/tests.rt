@@ -225,7 +225,7 @@ fn shown_in_parts<R: Threads + Sync>(
     text: &[u8],
     parts: usize,
 ) -> Result<Option<Vec<u8>>, TableError>
-    requires few { length text.now ≤ 1000 }
+    requires few { length text.now ≤ 1000000 }
     requires some { 1 ≤ parts }
 {
     match plain_table(rt, alloc, text, "", &NAMES, parts)? {
@@ -236,13 +236,21 @@ fn shown_in_parts<R: Threads + Sync>(
 
 // The cells of a table that `csv` reads, if it reads.
 fn shown_by_csv(alloc: Global, text: &[u8]) -> Result<Option<Vec<u8>>, AllocError>
-    requires { length text.now ≤ 1000 }
+    requires { length text.now ≤ 1000000 }
 {
     match csv_table(alloc, text, "", &NAMES) {
         Ok(frame) => Ok(Some(shown(alloc, &frame)?)),
         Err(TableError::Fault(_)) => Ok(None),
         Err(TableError::NoMemory) => Err(AllocError),
     }
+}
+
+// The same three lines so many times.
+fn push_lines(text: &mut Vec<u8>, count: usize) -> Result<(), AllocError> {
+    for _ in 0..count {
+        text.extend_from_slice(b"a,1,x,\n,-22,,longer\nb,,y,z\n")?;
+    }
+    Ok(())
 }
 
 // A header, behind a byte order mark or none, a line whose first cell has so many bytes, so many times the
@@ -257,9 +265,7 @@ fn repeated(alloc: Global, long: usize, count: usize, end: &[u8]) -> Result<Vec<
         text.push(b'k')?;
     }
     text.extend_from_slice(b",7,,\n")?;
-    for _ in 0..count {
-        text.extend_from_slice(b"a,1,x,\n,-22,,longer\nb,,y,z\n")?;
-    }
+    push_lines(&mut text, count)?;
     text.extend_from_slice(end)?;
     Ok(text)
 }
@@ -272,7 +278,7 @@ fn are_alike<R: Threads + Sync>(
     text: &[u8],
     sure: usize,
 ) -> Result<bool, Fail> {
-    if text.len() > 1000 {
+    if text.len() > 1_000_000 {
         return Ok(false);
     }
     let whole = shown_by_csv(alloc, text)?;
@@ -348,6 +354,7 @@ fn shown_in_blocks<R: Threads + Sync>(
     rt: &R,
     alloc: Global,
     text: &[u8],
+    workers: usize,
     block: usize,
 ) -> Result<Option<Vec<u8>>, AllocError>
     requires { 0 < block }
@@ -357,10 +364,10 @@ fn shown_in_blocks<R: Threads + Sync>(
     let reading = Reading {
         names: &NAMES,
         null_word: "",
-        workers: 2,
+        workers,
         block,
     };
-    match read_table(rt, alloc, &mut source, 1000, &reading) {
+    match read_table(rt, alloc, &mut source, 1_000_000, &reading) {
         Ok(frame) => Ok(Some(shown(alloc, &frame)?)),
         Err(Status::Table(_)) => Ok(None),
         Err(_) => Err(AllocError),
@@ -373,12 +380,12 @@ fn are_alike_in_blocks<R: Threads + Sync>(
     alloc: Global,
     text: &[u8],
 ) -> Result<bool, Fail> {
-    if text.len() > 1000 {
+    if text.len() > 1_000_000 {
         return Ok(false);
     }
     let whole = shown_by_csv(alloc, text)?;
     for step in 1..6 {
-        let found = shown_in_blocks(rt, alloc, text, 13 * step)?;
+        let found = shown_in_blocks(rt, alloc, text, 2, 13 * step)?;
         if found != whole {
             return Ok(false);
         }
@@ -410,6 +417,21 @@ fn tables_in_blocks(rt: HostRuntime) -> Result<(), Fail> {
                 "{text:?}"
             );
         }
+    }
+    Ok(())
+}
+
+// Blocks that are long enough for a part a worker, of which the second does not read in some tables.
+#[test]
+fn tables_in_blocks_of_parts(rt: HostRuntime) -> Result<(), Fail> {
+    let alloc = rt.alloc();
+    let middles: [&[u8]; 3] = [b"", b"a,1,\xC3\xA9,\"q\n,\"\n", b"a,bad,x,last\n"];
+    for middle in middles {
+        let mut text = repeated(alloc, 1, 6000, middle)?;
+        push_lines(&mut text, 6000)?;
+        let found = shown_in_blocks(&rt, alloc, text.as_slice(), 3, 150_000)?;
+        assert!(rt; text.len() < 1_000_000);
+        assert!(rt; found == shown_by_csv(alloc, text.as_slice())?);
     }
     Ok(())
 }

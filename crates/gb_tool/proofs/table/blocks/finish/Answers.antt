@@ -9,7 +9,7 @@ use Rattle.gb_tool.proofs.table.blocks.finish.Goals as goal
 pub read_to-requires-clause-few : goal.read_to-requires-clause-few
 read_to-requires-clause-few g c κs within =
     let r = c.args.reading.now in
-    omega (arith, ap length c.as_slice.ensures.value, held_few (names_in r.names.now) r.null_word.now (fields_of c.args.header.now) c.requires.bytes c.args.held.items c.args.columns.items c.requires.front c.requires.few)
+    omega (arith, ap length c.as_slice.ensures.value, held_few (names_in r.names.now) r.null_word.now (fields_of c.args.header.now) c.requires.few.bytes c.args.held.items c.args.columns.items c.requires.few.front c.requires.few.few)
 
 pub append_columns-requires-clause-alike : goal.append_columns-requires-clause-alike
 append_columns-requires-clause-alike g c =
@@ -17,12 +17,12 @@ append_columns-requires-clause-alike g c =
     let held = c.args.held.items in
     let gone = drop_all (length held) held (omega arith) in
     let part = rw (c.in-Some.is, c.as_slice.ensures.value, gone) at c.in-Ok.ensures.ok in
-    front_alike (names_in r.names.now) r.null_word.now (fields_of c.args.header.now) c.requires.bytes held c.args.columns.items c.requires.front [] c.in-Some.more.items part
+    front_alike (names_in r.names.now) r.null_word.now (fields_of c.args.header.now) c.requires.few.bytes held c.args.columns.items c.requires.few.front [] c.in-Some.more.items part
 
 pub append_columns-requires-clause-few : goal.append_columns-requires-clause-few
 append_columns-requires-clause-few g c =
     let r = c.args.reading.now in
-    front_has_few (names_in r.names.now) r.null_word.now (fields_of c.args.header.now) c.requires.bytes c.args.held.items c.args.columns.items c.requires.front c.requires.few
+    front_has_few (names_in r.names.now) r.null_word.now (fields_of c.args.header.now) c.requires.few.bytes c.args.held.items c.args.columns.items c.requires.few.front c.requires.few.few
 
 pub append_columns-requires-clause-few_more : goal.append_columns-requires-clause-few_more
 append_columns-requires-clause-few_more g c =
@@ -30,7 +30,7 @@ append_columns-requires-clause-few_more g c =
     let held = c.args.held.items in
     let gone = drop_all (length held) held (omega arith) in
     let part = rw (c.in-Some.is, c.as_slice.ensures.value, gone) at c.in-Ok.ensures.ok in
-    others_few (names_in r.names.now) r.null_word.now (fields_of c.args.header.now) c.requires.bytes held c.args.columns.items c.requires.front [] c.in-Some.more.items part c.requires.few
+    others_few (names_in r.names.now) r.null_word.now (fields_of c.args.header.now) c.requires.few.bytes held c.args.columns.items c.requires.few.front [] c.in-Some.more.items part c.requires.few.few
 
 pub frame_of-requires-clause-whole : goal.frame_of-requires-clause-whole
 frame_of-requires-clause-whole g c =
@@ -39,9 +39,9 @@ frame_of-requires-clause-whole g c =
     let gone = drop_all (length held) held (omega arith) in
     let part = rw (c.in-Some.is, c.as_slice.ensures.value, gone) at c.in-Ok.ensures.ok in
     let front =
-    front_join (names_in r.names.now) r.null_word.now (fields_of c.args.header.now) c.requires.bytes held c.args.columns.items c.requires.front [] c.in-Some.more.items part
+    front_join (names_in r.names.now) r.null_word.now (fields_of c.args.header.now) c.requires.few.bytes held c.args.columns.items c.requires.few.front [] c.in-Some.more.items part
     (record { count = length held; is = sym gone }) c.append_columns.new.columns.items c.in_ok-append_columns-in-Some.ensures in
-    all_whole (names_in r.names.now) r.null_word.now (fields_of c.args.header.now) c.requires.bytes c.append_columns.new.columns.items front c.requires.few
+    all_whole (names_in r.names.now) r.null_word.now (fields_of c.args.header.now) c.requires.few.bytes c.append_columns.new.columns.items front c.requires.few.few
 
 pub frame_of-requires-clause-frame : goal.frame_of-requires-clause-frame
 frame_of-requires-clause-frame g c =
@@ -50,9 +50,9 @@ frame_of-requires-clause-frame g c =
     let gone = drop_all (length held) held (omega arith) in
     let part = rw (c.in-Some.is, c.as_slice.ensures.value, gone) at c.in-Ok.ensures.ok in
     let front =
-    front_join (names_in r.names.now) r.null_word.now (fields_of c.args.header.now) c.requires.bytes held c.args.columns.items c.requires.front [] c.in-Some.more.items part
+    front_join (names_in r.names.now) r.null_word.now (fields_of c.args.header.now) c.requires.few.bytes held c.args.columns.items c.requires.few.front [] c.in-Some.more.items part
     (record { count = length held; is = sym gone }) c.append_columns.new.columns.items c.in_ok-append_columns-in-Some.ensures in
-    all_frame (names_in r.names.now) r.null_word.now (fields_of c.args.header.now) c.requires.bytes c.append_columns.new.columns.items front
+    all_frame (names_in r.names.now) r.null_word.now (fields_of c.args.header.now) c.requires.few.bytes c.append_columns.new.columns.items front
 
 pub returns-in_ok-frame_of-in-Some-clause-ok : goal.returns-in_ok-frame_of-in-Some-clause-ok
 returns-in_ok-frame_of-in-Some-clause-ok g c = λ bytes few before.
