@@ -16,5 +16,3 @@ pub mod rev_mapping;
 pub mod scalar;
 pub mod small_str;
 pub mod standard;
-#[cfg(test)]
-mod tests;

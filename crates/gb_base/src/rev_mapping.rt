@@ -1,14 +1,15 @@
 //! The texts of a category column, each by its code.
 
-ghost use Rattle.std.specs.Prelude.{◌≡◌, ◌<◌, ◌^◌, ◌↔◌, [], IsTrue, length, map, position, slice_get, vec_len, Some, All, IfOk, IfErr, OnOk, OnErr};
+ghost use Rattle.std.specs.Prelude.{◌≡◌, ◌<◌, ◌^◌, ◌↔◌, [], IsTrue, length, map, position, slice_get, vec_len, Some, IfOk, IfErr, OnOk, OnErr};
 ghost use Rattle.std.specs.List.{IsDistinct};
-ghost use Rattle.std.specs.Str.{IsUtf8, bytes_eq};
+ghost use Rattle.std.specs.Str.{bytes_eq};
 ghost use Rattle.gb_defs.specs.Slot.{Bytes};
 ghost use Rattle.gb_defs.specs.Table.{with_text};
 ghost use Rattle.gb_base.specs.PlSmallStr.{IsNoMemory, name_of};
 
 use crate::error::PolarsResult;
 use crate::small_str::PlSmallStr;
+use gb_table::text_table::TextTable;
 use indexmap::IndexSet;
 use std::alloc::Global;
 use std::marker::Model;
@@ -16,21 +17,18 @@ use std::marker::Model;
 /// The distinct texts of a category column. The code of a text is its place.
 #[derive(Debug, Drop)]
 pub struct RevMapping {
-    texts: IndexSet<PlSmallStr>,
+    texts: TextTable,
 }
 
 impl Model for RevMapping {
-    ghost use Rattle.std.specs.Prelude.{◌<◌, ◌^◌, List, ℕ, length, map};
+    ghost use Rattle.std.specs.Prelude.{List, ℕ};
     ghost use Rattle.std.specs.Coded.{coded_list, coded_ℕ};
-    ghost use Rattle.gb_base.specs.PlSmallStr.{name_of};
 
     ghost Value = { List (List ℕ) };
 
     ghost coded = { coded_list (coded_list coded_ℕ) };
 
-    ghost view = { λ m. map name_of m.texts.keys };
-
-    ghost invariant = { λ m. length m.texts.keys < 2 ^ 32 };
+    ghost view = { λ m. m.texts };
 }
 
 impl PartialEq for RevMapping {
@@ -42,7 +40,7 @@ impl PartialEq for RevMapping {
     ghost laws = { partial_equiv_from_equiv (lists_equiv nat_list_eq_equiv) };
 
     fn eq(&self, other: &RevMapping) -> bool {
-        self.texts.as_slice() == other.texts.as_slice()
+        self.texts == other.texts
     }
 }
 
@@ -58,7 +56,7 @@ impl RevMapping {
         ensures { result ≡ [] }
     {
         RevMapping {
-            texts: IndexSet::new(alloc),
+            texts: TextTable::new(alloc),
         }
     }
 
@@ -69,9 +67,18 @@ impl RevMapping {
         ensures ok { IfOk result (λ m. m ≡ map name_of texts.items) }
         ensures err { IfErr result IsNoMemory }
     {
-        Ok(RevMapping {
-            texts: IndexSet::from_iter(*texts.allocator(), texts)?,
-        })
+        let mut map = TextTable::new(*texts.allocator());
+        for name in &texts {
+            map.number_of(name.as_str())?;
+        }
+        Ok(RevMapping { texts: map })
+    }
+
+    /// The texts of a table, each with its number as code.
+    pub fn from_table(texts: TextTable) -> RevMapping
+        ensures { result ≡ texts }
+    {
+        RevMapping { texts }
     }
 
     /// How many texts there are. They differ.
@@ -88,20 +95,18 @@ impl RevMapping {
         requires { code < length self.now }
         ensures { slice_get self.now code ≡ Some result.now }
     {
-        self.texts[code as usize].as_str()
+        self.texts.get(code)
     }
 
     /// The code of a text, none where it is none of the texts.
     pub fn find(&self, text: &str) -> Option<u32>
         ensures { result ≡ position (bytes_eq text.now) self.now }
     {
-        match self.texts.get_index_of(text) {
-            Some(place) => Some(place as u32),
-            None => None,
-        }
+        self.texts.find(text)
     }
 
     /// The code of a text. One that is new comes last.
+    #[inline]
     pub fn code_of(&mut self, text: &str) -> PolarsResult<u32>
         requires { length self.old < 4294967295 }
         ensures code { IfOk result (λ code. position (bytes_eq text.now) self.new ≡ Some code) }
@@ -109,13 +114,7 @@ impl RevMapping {
         ensures err { IfErr result IsNoMemory }
         ensures unchanged { OnErr result (self.new ≡ self.old) }
     {
-        if let Some(code) = self.find(text) {
-            return Ok(code);
-        }
-        let code = self.texts.len() as u32;
-        let text = PlSmallStr::from_str(*self.texts.allocator(), text)?;
-        self.texts.insert(text)?;
-        Ok(code)
+        Ok(self.texts.number_of(text)?)
     }
 }
 

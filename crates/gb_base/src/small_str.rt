@@ -3,7 +3,6 @@
 ghost use Rattle.std.specs.Prelude.{◌≡◌, IfOk};
 
 use crate::error::{PolarsError, PolarsResult};
-use indexmap::Equivalent;
 use std::alloc::Global;
 
 /// A name. Equality, order and hash are those of its bytes.
@@ -40,24 +39,5 @@ impl PlSmallStr {
         Ok(PlSmallStr {
             text: self.text.clone()?,
         })
-    }
-}
-
-// Names are looked up by their text.
-impl Equivalent<PlSmallStr> for &str {
-    ghost use Rattle.std.specs.Cmp.Lexicographic.{bytes_decides, nat_list_eq_equiv};
-    ghost use Rattle.std.specs.Hash as fed;
-    ghost use Rattle.std.specs.Str.{bytes_eq};
-    ghost use Rattle.std.proofs.Common.{ap};
-    ghost use Rattle.gb_base.specs.PlSmallStr.{name_of};
-
-    ghost equivalent = { λ q k. bytes_eq q.now (name_of k) };
-
-    ghost respects_hash = { λ q k h. ap fed.str ((bytes_decides q.now (name_of k)).0 h) };
-
-    ghost respects_eq = { λ q x y. nat_list_eq_equiv.congr q.now (name_of x) (name_of y) };
-
-    fn equivalent(&self, key: &PlSmallStr) -> bool {
-        *self == key.as_str()
     }
 }

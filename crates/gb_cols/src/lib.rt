@@ -10,7 +10,5 @@ pub mod null;
 pub mod primitive;
 pub mod series_trait;
 mod slices;
-#[cfg(test)]
-mod tests;
 pub mod undo_append;
 pub mod utf8;

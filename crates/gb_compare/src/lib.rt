@@ -7,6 +7,4 @@ pub mod inner;
 pub mod layout;
 pub mod null_order;
 pub mod series;
-#[cfg(test)]
-mod tests;
 pub mod total_ord;

@@ -6,5 +6,3 @@ mod fill;
 pub mod flatten;
 pub mod nullable;
 pub mod shares;
-#[cfg(test)]
-mod tests;

@@ -9,7 +9,7 @@ use Rattle.std.proofs.lemmas.List.Sorted.{IsPartitionPoint-from_clause, IsPartit
 use Rattle.std.proofs.lemmas.Grind.{flat_map-append}
 use Rattle.std.proofs.lemmas.List.{append-nil, length-append, length_push, take_more, take_all, take-append-le, get_or_append_left, get_or_at, get_or_default}
 use Rattle.gb_values.specs.Array.{start_of}
-use Rattle.gb_hash.specs.Chunks.{AreEnds, texts_in}
+use Rattle.gb_hash.specs.Chunks.{AreEnds, HasEndBehind, IsChunkAt, texts_in}
 
 abbrev pub Chunks : Type 0
 Chunks = List (Bor (List (List ℕ)))
@@ -53,41 +53,75 @@ start_is : (chunks : Chunks) (ends : List ℕ) → AreEnds chunks ends → (k : 
 start_is chunks ends are zero le = refl
 start_is chunks ends are (suc k) le = are.at k (omega (arith, le))
 
--- the chunk that a search for a place ends at
-pub record IsChunkOf (chunks : Chunks) (ends : List ℕ) (i at : ℕ) : Type 0 where
-  pub within : at < length chunks
-  pub from : start_of 0 ends at ≤ i
-  pub inside : (d : Bor (List (List ℕ))) → i - start_of 0 ends at < length (get_or chunks at d).now
-  pub same : (d : Bor (List (List ℕ))) → get_or (get_or chunks at d).now (i - start_of 0 ends at) [] ≡ get_or (texts_in chunks) i []
+-- the last end is how many texts there are
+pub last_end : (chunks : Chunks) (ends : List ℕ) → AreEnds chunks ends → (k : ℕ) → length ends ≡ suc k → get_or ends k 0 ≡ length (texts_in chunks)
+last_end chunks ends are k long =
+    let n : suc k ≡ length chunks = omega (arith, long, are.one_each) in
+    are.at k (omega (arith, n)) ∙ ap (upto chunks) n ∙ upto_all chunks
+
+-- some chunk ends behind a place among all texts
+pub end_behind : (chunks : Chunks) (ends : List ℕ) (texts : List (List ℕ)) (i : ℕ) → AreEnds chunks ends → texts_in chunks ≡ texts → i < length texts → HasEndBehind ends i
+end_behind chunks ends texts i are is low = by_length (length ends) refl
+  where
+    by_length : (n : ℕ) → length ends ≡ n → HasEndBehind ends i
+    by_length zero long =
+        let none : upto chunks (length chunks) ≡ 0 = ap (upto chunks) (sym are.one_each ∙ long) in
+        absurd (omega (arith, none, upto_all chunks, ap length is, low))
+    by_length (suc k) long =
+        let last : length ends - 1 ≡ k = omega (arith, long) in
+        record {
+          some = omega (arith, long);
+          behind = omega (arith, ap (λ n. get_or ends n 0) last, last_end chunks ends are k long, ap length is, low);
+        }
 
 from_at : (ends : List ℕ) (i at : ℕ) → at ≤ length ends → IsPartitionPoint (λ end. leb end i ≡ true) (λ end. leb end i ≡ false) ends at → start_of 0 ends at ≤ i
 from_at ends i zero bound point = omega arith
 from_at ends i (suc k) bound point = leb-true _ i (point.0 k 0 (omega arith) (omega arith))
 
-within_at : (chunks : Chunks) (start i at : ℕ) → at ≤ length chunks → start ≡ upto chunks at → start ≤ i → i < length (texts_in chunks) → (b : Bool) → ltb at (length chunks) ≡ b → at < length chunks
-within_at chunks start i at bound is from low true e = ltb-true at (length chunks) e
-within_at chunks start i at bound is from low false e =
-    let last : at ≡ length chunks = omega (arith, bound, ltb-false at (length chunks) e) in
-    absurd (omega (arith, is, ap (upto chunks) last, upto_all chunks, from, low))
+within_at : (ends : List ℕ) (i at : ℕ) → HasEndBehind ends i → at ≤ length ends → IsPartitionPoint (λ end. leb end i ≡ true) (λ end. leb end i ≡ false) ends at → (b : Bool) → ltb at (length ends) ≡ b → at < length ends
+within_at ends i at has bound point true e = ltb-true at (length ends) e
+within_at ends i at has bound point false e =
+    let last : length ends - 1 < at = omega (arith, bound, ltb-false at (length ends) e, has.some) in
+    absurd (omega (arith, has.behind, leb-true _ i (point.0 (length ends - 1) 0 (omega arith) last)))
 
 -- a search for the first chunk that ends behind a place finds the chunk that it stands in
-pub chunk_of : (chunks : Chunks) (ends : List ℕ) → AreEnds chunks ends → (i at : ℕ) → at ≤ length ends
-    → IsPartitionPoint (λ end. leb end i ≡ true) (λ end. leb end i ≡ false) ends at → i < length (texts_in chunks) → IsChunkOf chunks ends i at
-chunk_of chunks ends are i at bound point low =
-    let from = from_at ends i at bound point in
-    let few : at ≤ length chunks = omega (arith, bound, are.one_each) in
-    let is = start_is chunks ends are at few in
-    let within = within_at chunks (start_of 0 ends at) i at few is from low (ltb at (length chunks)) refl in
-    let end = leb-false (get_or ends at 0) i (point.1 at 0 (omega arith) (omega (arith, within, are.one_each))) in
-    let inside : (d : Bor (List (List ℕ))) → i - start_of 0 ends at < length (get_or chunks at d).now =
-    λ d. omega (arith, end, are.at at within, upto_more chunks at d within, is, from) in
+chunk_at : (ends : List ℕ) (i at : ℕ) → HasEndBehind ends i → at ≤ length ends → IsPartitionPoint (λ end. leb end i ≡ true) (λ end. leb end i ≡ false) ends at → IsChunkAt ends i at
+chunk_at ends i at has bound point =
+    let within = within_at ends i at has bound point (ltb at (length ends)) refl in
     record {
       within = within;
-      from = from;
+      from = from_at ends i at bound point;
+      before = leb-false (get_or ends at 0) i (point.1 at 0 (omega arith) within);
+    }
+
+-- the same by what a binary search says of a test whether a chunk ends at most there
+pub found_chunk : {F : Type 0} {g : Mut F (Bor ℕ × Unit {0}) Bool} {f : F} (ends : List ℕ) (i at : ℕ) → IsNonDecreasingBy (λ end. end) ends → HasEndBehind ends i
+    → at ≤ length ends → ((q : ℕ → Bool) → ComputesKey g q f → IsPartitionedBy q ends → IsPartitionPoint (λ end. q end ≡ true) (λ end. q end ≡ false) ends at)
+    → ((a : Bor ℕ × Unit {0}) (r : Bool) (f' : F) → Called g f a r f' → (r ≡ leb a.0.now i) × (f' ≡ f)) → IsChunkAt ends i at
+found_chunk ends i at rising has bound clause called =
+    let parted = IsPartitionedBy-leb (λ end. end) ends i rising in
+    chunk_at ends i at has bound (IsPartitionPoint-from_clause (λ end. leb end i) ends at clause parted called)
+
+-- the chunk that a place stands in, and its text
+pub record IsChunkOf (chunks : Chunks) (ends : List ℕ) (texts : List (List ℕ)) (i at : ℕ) : Type 0 where
+  pub within : at < length chunks
+  pub from : start_of 0 ends at ≤ i
+  pub inside : (d : Bor (List (List ℕ))) → i - start_of 0 ends at < length (get_or chunks at d).now
+  pub same : (d : Bor (List (List ℕ))) → get_or (get_or chunks at d).now (i - start_of 0 ends at) [] ≡ get_or texts i []
+
+pub chunk_of : (chunks : Chunks) (ends : List ℕ) (texts : List (List ℕ)) (i at : ℕ) → AreEnds chunks ends → texts_in chunks ≡ texts → IsChunkAt ends i at → IsChunkOf chunks ends texts i at
+chunk_of chunks ends texts i at are texts_are here =
+    let within : at < length chunks = omega (arith, here.within, are.one_each) in
+    let is = start_is chunks ends are at (omega (arith, within)) in
+    let inside : (d : Bor (List (List ℕ))) → i - start_of 0 ends at < length (get_or chunks at d).now =
+    λ d. omega (arith, here.before, are.at at within, upto_more chunks at d within, is, here.from) in
+    record {
+      within = within;
+      from = here.from;
       inside = inside;
       same = λ d.
-          let place : upto chunks at + (i - start_of 0 ends at) ≡ i = omega (arith, is, from) in
-          sym (ap (λ k. get_or (texts_in chunks) k []) (sym place) ∙ get_or-flat_map (λ c. c.now) chunks at (i - start_of 0 ends at) d [] within (inside d));
+          let place : upto chunks at + (i - start_of 0 ends at) ≡ i = omega (arith, is, here.from) in
+          sym (ap (λ k. get_or (texts_in chunks) k []) (sym place) ∙ get_or-flat_map (λ c. c.now) chunks at (i - start_of 0 ends at) d [] within (inside d)) ∙ ap (λ ts. get_or ts i []) texts_are;
     }
 
 pub texts_more : (chunks : Chunks) (chunk : Bor (List (List ℕ))) → texts_in (chunks ++ chunk ∷ []) ≡ texts_in chunks ++ chunk.now
@@ -118,18 +152,3 @@ ends_more chunks chunk ends end are is =
       one_each = omega (arith, long, longer, are.one_each);
       at = λ k lt. end_more chunks chunk ends end are is k (omega (arith, lt, long)) (ltb k (length chunks)) refl;
     }
-
--- the last end is how many texts there are
-pub last_end : (chunks : Chunks) (ends : List ℕ) → AreEnds chunks ends → (k : ℕ) → length ends ≡ suc k → get_or ends k 0 ≡ length (texts_in chunks)
-last_end chunks ends are k long =
-    let n : suc k ≡ length chunks = omega (arith, long, are.one_each) in
-    are.at k (omega (arith, n)) ∙ ap (upto chunks) n ∙ upto_all chunks
-
--- the same by what a binary search says of a test whether a chunk ends at most there
-pub found_chunk : {F : Type 0} {g : Mut F (Bor ℕ × Unit {0}) Bool} {f : F} (chunks : Chunks) (ends : List ℕ) (texts : List (List ℕ)) (i at : ℕ) → AreEnds chunks ends → texts_in chunks ≡ texts
-    → at ≤ length ends → ((q : ℕ → Bool) → ComputesKey g q f → IsPartitionedBy q ends → IsPartitionPoint (λ end. q end ≡ true) (λ end. q end ≡ false) ends at)
-    → ((a : Bor ℕ × Unit {0}) (r : Bool) (f' : F) → Called g f a r f' → (r ≡ leb a.0.now i) × (f' ≡ f)) → i < length texts → IsChunkOf chunks ends i at
-found_chunk chunks ends texts i at are is bound clause called low =
-    let parted = IsPartitionedBy-leb (λ end. end) ends i (ends_rise chunks ends are) in
-    let point = IsPartitionPoint-from_clause (λ end. leb end i) ends at clause parted called in
-    chunk_of chunks ends are i at bound point (omega (arith, low, ap length is))

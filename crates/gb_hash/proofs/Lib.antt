@@ -1,4 +1,2 @@
 pub mod ByteLemmas
 pub mod ChunkLemmas
-pub mod EntryLemmas
-pub mod TableLemmas

@@ -75,6 +75,3 @@ pub trait KeyRows: Sync {
     // Rows with one slot have one hash.
     ghost hashes_alike: { (r : Self) → HashAlike (rows r) };
 }
-
-#[cfg(test)]
-mod tests;

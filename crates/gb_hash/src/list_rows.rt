@@ -9,6 +9,8 @@ ghost use Rattle.gb_defs.specs.Rows.{rows_of_slots};
 ghost use Rattle.gb_values.specs.Array.{start_of};
 ghost use Rattle.gb_values.specs.Keys.{bytes_slot, key_slot};
 ghost use Rattle.gb_numbers.specs.Native.{Decides-pos};
+ghost use Rattle.std.specs.List.Sorted.{IsNonDecreasingBy};
+ghost use Rattle.gb_hash.specs.Chunks.{HasEndBehind, IsChunkAt};
 ghost use Rattle.gb_hash.specs.Keys.{bytes_decide, numbers_decide, plain_bytes_decide, slots_alike};
 
 use crate::dirty_hash::{Mixer, hash_of_halves, with_word};
@@ -133,6 +135,8 @@ pub struct TextChunks<'a> {
     chunks: Vec<&'a TextValues>,
     // Behind how many texts each chunk ends.
     ends: Vec<usize>,
+    // Of each so many texts, the chunk of the first.
+    pages: Vec<usize>,
 }
 
 impl<'a> Model for TextChunks<'a> {
@@ -154,6 +158,7 @@ impl<'a> TextChunks<'a> {
         TextChunks {
             chunks: Vec::new(alloc),
             ends: Vec::new(alloc),
+            pages: Vec::new(alloc),
         }
     }
 
@@ -162,6 +167,7 @@ impl<'a> TextChunks<'a> {
         ensures { OnOk result (self.new ≡ self.old ++ chunk.now) }
     {
         let end = self.len().checked_add(chunk.len()).ok_or(AllocError)?;
+        put_pages(&mut self.pages, self.chunks.len(), end)?;
         self.chunks.reserve(1)?;
         self.ends.push(end)?;
         self.chunks.push_reserved(chunk);
@@ -177,15 +183,44 @@ impl<'a> TextChunks<'a> {
         }
     }
 
-    /// The text at a place. Its chunk is found by a binary search.
+    /// The text at a place. Its chunk is mostly that of a text not far before it, and else is found by a
+    /// binary search.
     #[inline]
     pub fn get(&self, i: usize) -> &'a str
         requires { i < length self.now }
         ensures { result.now ≡ get_or self.now i [] }
     {
-        let at = self.ends.partition_point(|end| *end <= i);
+        let at = chunk_at(&self.ends, &self.pages, i);
         self.chunks[at].get(i - chunk_start(&self.ends, at))
     }
+}
+
+// How many texts a page has.
+const PAGE: usize = 4096;
+
+// Notes a chunk for each page that begins before a place and is not noted yet.
+fn put_pages(pages: &mut Vec<usize>, chunk: usize, end: usize) -> Result<(), AllocError> {
+    for _ in pages.len()..end.div_ceil(PAGE) {
+        pages.push(chunk)?;
+    }
+    Ok(())
+}
+
+// The chunk that a text stands in. The one that its page notes is looked at first.
+#[inline]
+fn chunk_at(ends: &[usize], pages: &[usize], i: usize) -> usize
+    requires rising { IsNonDecreasingBy (λ end. end) ends.now }
+    requires inside { HasEndBehind ends.now i }
+    ensures { IsChunkAt ends.now i result }
+{
+    let noted = match pages.get(i / PAGE) {
+        Some(chunk) => *chunk,
+        None => 0,
+    };
+    if noted < ends.len() && chunk_start(ends, noted) <= i && i < ends[noted] {
+        return noted;
+    }
+    ends.partition_point(|end| *end <= i)
 }
 
 // Behind how many texts the chunk at a place starts.

@@ -13,8 +13,9 @@ use Rattle.gb_defs.specs.Column.{ColumnValue, NotSorted, UsesCodes, fresh_column
 use Rattle.gb_defs.specs.ColumnType.{CategoricalOrdering, Categorical, Flat, Fits, FitsParts, text, uint32}
 use Rattle.gb_defs.specs.Slot.{Slot, Slots, End, And, Nil, Num, Bytes, Items, slot_eq}
 use Rattle.gb_defs.specs.Table.{category_column, coded_slot, texts_after, texts_in, with_text}
+use Rattle.gb_logical.specs.CategoricalBuilder.{AreCoded}
 use Rattle.gb_logical.specs.Categorical.{IsCodeBelow, category_type, coded_as}
-use Rattle.gb_base.proofs.TextLemmas.{position_pushed}
+use Rattle.gb_table.proofs.TextLemmas.{position_pushed}
 
 -- ---- places
 
@@ -39,7 +40,7 @@ module _ {X : Type 0} (p : X → Bool) where
         (found.0, ap (λ b. cond b (Some i) (position_from p (i + 1) xs)) e ∙ found.1, omega (arith, found.2))
   ]
 
-  position_inside : (xs : List X) → list_any p xs ≡ true → (k : ℕ) × (position p xs ≡ Some k) × (k < length xs)
+  pub position_inside : (xs : List X) → list_any p xs ≡ true → (k : ℕ) × (position p xs ≡ Some k) × (k < length xs)
   position_inside xs any =
       let found = from_inside 0 xs any in
       (found.0, position_from-zero p xs ∙ found.1, omega (arith, found.2))
@@ -84,7 +85,7 @@ with_behind texts (Bytes bytes) = elim (cases_Bool (list_any (bytes_eq bytes) te
 with_behind texts (Items parts) = ([], sym (append-nil texts))
 
 -- a slot's own text is known after it
-known_with : (texts : List (List ℕ)) (slot : Slot) → IsKnown (with_text texts slot) slot
+pub known_with : (texts : List (List ℕ)) (slot : Slot) → IsKnown (with_text texts slot) slot
 known_with texts Nil = tt
 known_with texts (Num n) = tt
 known_with texts (Bytes bytes) = elim (cases_Bool (list_any (bytes_eq bytes) texts)) [
@@ -137,11 +138,6 @@ coded_kept texts (x ∷ xs) ys =
     let whole = ap (λ (ts : List (List ℕ)). coded_slot ts x) (sym (after_more one xs ys)) ∙ later ∙ sym (coded_after one xs x known) in
     ap (λ s. s ∷ map (coded_slot (texts_after (texts_after one xs) ys)) xs) whole ∙ ap (λ ss. coded_slot (texts_after one xs) x ∷ ss) (coded_kept one xs ys)
 
--- slots so far with their texts behind some, and their codes behind some
-pub record AreCoded (known : List (List ℕ)) (before slots : List Slot) (texts : List (List ℕ)) (codes : List Slot) : Type 0 where
-  pub texts_are : texts ≡ texts_after known slots
-  pub codes_are : codes ≡ before ++ map (coded_slot texts) slots
-
 pub none_coded : (known : List (List ℕ)) (before : List Slot) → AreCoded known before [] known before
 none_coded known before = record { texts_are = refl; codes_are = sym (append-nil before) }
 
@@ -161,7 +157,7 @@ coded_more {known} {before} {slots} {texts} {codes} coded more texts' codes' t c
 
 -- ---- which codes stand there
 
-no_parts : (k : ℕ) (parts : Slots) → FitsParts text k parts → ⊥
+pub no_parts : (k : ℕ) (parts : Slots) → FitsParts text k parts → ⊥
 no_parts k End fits = fits
 no_parts k (And s ss) fits = no_parts (suc k) ss fits.1
 
@@ -173,10 +169,10 @@ below_known texts (Bytes bytes) fits known =
     (found.0, ap (λ o. pos (unwrap_or o 0)) found.1, found.2)
 below_known texts (Items parts) fits known = absurd (no_parts 0 parts fits)
 
-first_of : (P : Slot → Type 0) (slot : Slot) (slots : List Slot) → All P (slot ∷ slots) → P slot
+pub first_of : (P : Slot → Type 0) (slot : Slot) (slots : List Slot) → All P (slot ∷ slots) → P slot
 first_of P slot slots all = all 0 slot (omega arith)
 
-rest_of : (P : Slot → Type 0) (slot : Slot) (slots : List Slot) → All P (slot ∷ slots) → All P slots
+pub rest_of : (P : Slot → Type 0) (slot : Slot) (slots : List Slot) → All P (slot ∷ slots) → All P slots
 rest_of P slot slots all = λ k d lt. all (suc k) d (omega (arith, lt))
 
 -- each code is that of a text

@@ -1,5 +1,5 @@
+pub mod BuilderLemmas
 pub mod CategoryLemmas
 pub mod CodingLemmas
 pub mod LogicalLemmas
 pub mod MarkLemmas
-pub mod TextCodeLemmas

@@ -11,13 +11,12 @@ ghost use Rattle.gb_logical.specs.Categorical.{IsCodeBelow, category_type, coded
 ghost use Rattle.gb_base.specs.DataType.{ordering_of};
 ghost use Rattle.gb_base.specs.PlSmallStr.{IsNoMemory, name_of};
 
+pub mod builder;
 mod codes;
-#[cfg(test)]
-mod tests;
-mod text_codes;
 
+use builder::CategoricalBuilder;
 pub use codes::codes_in_range;
-use codes::{all_marked, code_texts, marks_of};
+use codes::{all_marked, marks_of};
 use gb_base::data_type::{CategoricalOrdering, DataType, IsSorted};
 use gb_base::error::PolarsResult;
 use gb_base::nullable_idx::IdxSize;
@@ -27,14 +26,10 @@ use gb_cols::chunked::StringChunked;
 use gb_cols::primitive::UInt32Chunked;
 use gb_cols::series_trait::SeriesTrait;
 use gb_cols::undo_append::UndoAppend;
-use gb_numbers::numeric::UInt32Type;
-use gb_values::nullable::NullableArray;
-use gb_values::primitive::PrimitiveArray;
 use gb_values::slot_order::SlotOrder;
 use std::alloc::{AllocError, Global};
 use std::marker::Model;
 use std::sync::Arc;
-use text_codes::TextCodes;
 
 /// A column of categories. Its slots are codes, and its type has the text of each.
 #[derive(Drop)]
@@ -75,23 +70,10 @@ impl CategoricalChunked {
             c ≡ category_column texts.now.name (ordering_of ordering) texts.now.slots) }
         ensures err { IfErr result IsNoMemory }
     {
-        let alloc = texts.allocator();
-        let mut known = TextCodes::new(alloc)?;
-        let mut codes: PrimitiveArray<UInt32Type> = NullableArray::empty(alloc);
-        codes.reserve(texts.len())?;
-        let (earlier, last) = texts.chunks();
-        for chunk in earlier {
-            code_texts(chunk, &mut known, &mut codes)?;
-        }
-        code_texts(last, &mut known, &mut codes)?;
         let name = texts.name().try_clone()?;
-        Ok(CategoricalChunked {
-            physical: UInt32Chunked::from_chunk(alloc, name, codes),
-            map: Arc::new(alloc, known.into_map(alloc)?)?,
-            ordering,
-            is_enum: false,
-            all_used: true,
-        })
+        let mut builder = CategoricalBuilder::new(texts.allocator(), name, ordering);
+        builder.push_texts(texts)?;
+        builder.finish()
     }
 
     /// The codes of a column with the texts of a map.

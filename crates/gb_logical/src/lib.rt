@@ -4,7 +4,3 @@
 
 pub mod categorical;
 pub mod logical;
-#[cfg(test)]
-mod order_tests;
-#[cfg(test)]
-mod slice_tests;

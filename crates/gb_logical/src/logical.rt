@@ -18,8 +18,6 @@ mod date;
 mod datetime;
 mod decimal;
 mod duration;
-#[cfg(test)]
-mod tests;
 mod time;
 
 pub use date::{DateChunked, DateKind};

@@ -15,7 +15,7 @@ use Rattle.gb_defs.specs.Rows.{same_slot_at}
 use Rattle.gb_defs.specs.Slot.{Slot, slot_eq}
 use Rattle.gb_defs.proofs.ClassesLemmas.{IsGrouped, groups_from, grouped_none, grouped_old, grouped_new, place_at, place_none_from}
 use Rattle.gb_defs.proofs.SlotLemmas.{slot_eq_equiv, slot_eq_from_Decides}
-use Rattle.gb_hash.specs.Table.{IsAdded, IsKnown, IsNumbered}
+use Rattle.gb_table.specs.Table.{IsAdded, IsKnown, IsNumbered}
 use Rattle.gb_paths.specs.Numbers.{lists_by, pairs_by}
 use Rattle.gb_paths.proofs.NumberLemmas.{lists_old, lists_new}
 

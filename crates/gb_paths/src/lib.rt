@@ -7,6 +7,4 @@ pub mod group_by;
 pub mod into_groups;
 mod row_groups;
 mod row_hashes;
-#[cfg(test)]
-mod tests;
 pub mod threaded;

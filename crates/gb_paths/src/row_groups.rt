@@ -14,8 +14,8 @@ ghost use Rattle.gb_paths.specs.Numbers.{AreEntries, IsRoomFor, counts_by, group
 use gb_base::error::PolarsResult;
 use gb_base::nullable_idx::IdxSize;
 use gb_groups::groups_idx::IdxVec;
-use gb_hash::group_table::GroupTable;
 use gb_hash::key_rows::{KeyRows, Steps};
+use gb_table::group_table::GroupTable;
 use smallvec::SmallVec;
 use std::alloc::{AllocError, Global};
 use std::sync::ledger::Ledger;

@@ -6,7 +6,5 @@ pub mod flatten;
 pub mod frame;
 mod of_type;
 pub mod series;
-#[cfg(test)]
-mod tests;
 mod value;
 mod variant;

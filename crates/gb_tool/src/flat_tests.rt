@@ -1,9 +1,9 @@
 //! Each type of a table's columns, but for numbers, through `run`: its cells read at both ends of their
 //! range, as a key and as a value, and printed.
 
-use crate::status::{Status, TableFault};
 use crate::tests::{source_of, status_through};
 use gb_base::memory::{FreeGate, MemSink};
+use gb_run::status::{Status, TableFault};
 use std::alloc::Global;
 use std::test::Fail;
 use std::thread::Threads;

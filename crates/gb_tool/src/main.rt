@@ -1,30 +1,24 @@
-//! The program: it reads a typed CSV table, groups it and writes the grouped table. `run` is its top
-//! call, and carries the theorem of what the program does.
+//! The program: it reads a typed CSV table, groups it and writes the grouped table, by `gb_run::run::run`,
+//! which carries the theorem of what it does. The tests of the whole stand here too.
 #![tactic(auto)]
 
 #[cfg(test)]
 mod all_words_tests;
 #[cfg(test)]
 mod flat_tests;
-mod folds;
+#[cfg(test)]
+mod fold_tests;
 #[cfg(test)]
 mod gate_tests;
-mod grouping;
-mod report;
-mod run;
-mod status;
-mod streams;
-mod table;
+#[cfg(test)]
+mod table_tests;
 #[cfg(test)]
 mod tests;
-mod text;
-mod type_word;
-mod words;
 
-use crate::run::{Limits, run};
-use crate::status::Status;
 use gb_base::memory::FreeGate;
 use gb_base::standard::{StderrSink, StdinSource, StdoutSink};
+use gb_run::run::{Limits, run};
+use gb_run::status::Status;
 use std::env;
 use std::io::ErrorKind;
 use std::process::ExitCode;

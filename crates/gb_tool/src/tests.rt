@@ -2,11 +2,11 @@
 
 ghost use Rattle.std.specs.Prelude.{◌≤◌};
 
-use crate::run::{Limits, run};
-use crate::status::{Status, TableError, TableFault};
 use gb_base::device::{Failed, Gate, Source};
 use gb_base::error::PolarsError;
 use gb_base::memory::{FreeGate, MemSink, SoundSource};
+use gb_run::run::{Limits, run};
+use gb_run::status::{Status, TableError, TableFault};
 use std::alloc::Global;
 use std::test::Fail;
 use std::thread::Threads;

@@ -8,7 +8,5 @@ pub mod bytes;
 pub mod nullable;
 pub mod primitive;
 pub mod slot_order;
-#[cfg(test)]
-mod tests;
 pub mod utf8;
 mod validity;

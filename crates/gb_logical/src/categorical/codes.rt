@@ -1,31 +1,49 @@
 //! Passes over the codes of a column, and over the texts that get codes.
 
-ghost use Rattle.std.specs.Prelude.{◌≡◌, ◌+◌, ◌++◌, ◌≤◌, ◌<◌, ◌^◌, ◌↔◌, ◌∷◌, [], IsTrue, All, length, map, pos, replicate, false, true, IfErr, IfOk, OnOk};
+ghost use Rattle.std.specs.Prelude.{◌≡◌, ◌+◌, ◌++◌, ◌≤◌, ◌<◌, ◌^◌, ◌↔◌, ◌∷◌, [], IsTrue, All, length, map, pos, replicate, false, true, IfOk, OnOk};
 ghost use Rattle.gb_defs.specs.Table.{coded_slot, texts_after, with_text};
 ghost use Rattle.gb_values.specs.Array.{native_slot, text_slot};
 ghost use Rattle.gb_logical.specs.Categorical.{HasMarked, IsCodeBelow};
-ghost use Rattle.gb_base.specs.PlSmallStr.{IsNoMemory};
 
-use crate::categorical::text_codes::TextCodes;
-use gb_base::error::PolarsResult;
+use gb_cols::chunked::StringChunked;
 use gb_cols::primitive::UInt32Chunked;
 use gb_cols::series_trait::SeriesTrait;
 use gb_numbers::numeric::UInt32Type;
+use gb_table::text_table::TextTable;
 use gb_values::primitive::PrimitiveArray;
 use gb_values::utf8::Utf8Array;
 use std::alloc::AllocError;
 
-/// The codes of these texts behind the codes before. A text that is new comes last among those known.
-pub(super) fn code_texts<'a>(
-    texts: &'a Utf8Array,
-    known: &mut TextCodes<'a>,
+/// The codes of the texts of a column behind the codes before. A text that is new comes last among those
+/// known.
+pub(super) fn code_column(
+    texts: &StringChunked,
+    known: &mut TextTable,
     codes: &mut PrimitiveArray<UInt32Type>,
-) -> PolarsResult<()>
+) -> Result<(), AllocError>
+    requires { length known.old + length texts.now.slots ≤ 4294967295 }
+    ensures known { OnOk result (known.new ≡ texts_after known.old texts.now.slots) }
+    ensures codes { OnOk result
+        (codes.new ≡ codes.old ++ map (coded_slot known.new) texts.now.slots) }
+{
+    let (earlier, last) = texts.chunks();
+    for chunk in earlier {
+        code_texts(chunk, known, codes)?;
+    }
+    code_texts(last, known, codes)?;
+    Ok(())
+}
+
+// The same for the texts of a chunk.
+fn code_texts(
+    texts: &Utf8Array,
+    known: &mut TextTable,
+    codes: &mut PrimitiveArray<UInt32Type>,
+) -> Result<(), AllocError>
     requires { length known.old + length texts.now ≤ 4294967295 }
     ensures known { OnOk result (known.new ≡ texts_after known.old texts.now) }
     ensures codes { OnOk result
         (codes.new ≡ codes.old ++ map (coded_slot known.new) texts.now) }
-    ensures err { IfErr result IsNoMemory }
 {
     for i in 0..texts.len() {
         code_text(texts.get(i), known, codes)?;
@@ -33,11 +51,11 @@ pub(super) fn code_texts<'a>(
     Ok(())
 }
 
-// The code of one text more, null for none. Its error is small, for what is called for each row.
+// The code of one text more, null for none.
 #[inline]
-fn code_text<'a>(
-    text: Option<&'a str>,
-    known: &mut TextCodes<'a>,
+fn code_text(
+    text: Option<&str>,
+    known: &mut TextTable,
     codes: &mut PrimitiveArray<UInt32Type>,
 ) -> Result<(), AllocError>
     requires { length known.old < 4294967295 }
@@ -46,7 +64,7 @@ fn code_text<'a>(
         OnOk result (codes.new ≡ codes.old ++ slot ∷ []) }
 {
     match text {
-        Some(text) => codes.push(Some(known.code_of(text)?))?,
+        Some(text) => codes.push(Some(known.number_of(text)?))?,
         None => codes.push(None)?,
     }
     Ok(())

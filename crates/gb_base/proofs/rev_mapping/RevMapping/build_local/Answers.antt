@@ -1,19 +1,26 @@
-use Rattle.std.proofs.Common.{◌≡◌, ◌∙◌, [], map, fold, ap, Ok}
-use Rattle.std.proofs.lemmas.Iterator.Adapters.{YieldsList-from_vec, fact_from_collect}
-use Rattle.indexmap.specs.IndexSet.{insert_key}
+use Rattle.std.proofs.Common.{List, arith, ◌<◌, ◌∙◌, ap, length, map, subst, sym, take}
+use Rattle.std.specs.List.{IsDistinct}
+use Rattle.std.specs.Str.{bytes_eq}
+use Rattle.std.proofs.lemmas.List.{length-map, length-take-le, take_all}
+use Rattle.gb_base.specs.declared.small_str.PlSmallStr.{PlSmallStr}
 use Rattle.gb_base.specs.PlSmallStr.{name_of}
-use Rattle.gb_base.proofs.TextLemmas.{name_eq, names_inserted}
+use Rattle.gb_base.proofs.TextLemmas.{text_more}
 use Rattle.gb_base.proofs.rev_mapping.RevMapping.build_local.Goals as goal
 
--- the set has the names as they stood
-kept : (c : goal.In_ok-from_iter) → c.in_ok-from_iter.field-0.keys ≡ c.args.texts.items
-kept c =
-    let ran = c.in_ok-from_iter.ensures.ran in
-    fact_from_collect {E = Unit {0}} (λ xs n. n.keys ≡ fold (insert_key name_eq) [] xs) (Ok c.in_ok-from_iter.field-0) (ran.1, ran.3, ran.4.0) (YieldsList-from_vec c.args.texts.items ran.2.0 (ran.2.1 ∙ c.args.texts.ok.0))
-    ∙ names_inserted c.args.texts.items c.requires.differ
+pub number_of-requires : goal.number_of-requires
+number_of-requires c =
+    let names = c.deref-name-items.result.now in
+    let i = c.loop-name.name-index in
+    let lt : i < length names = omega (arith, c.loop-name-test.true) in
+    omega (arith, ap length c.loop-name.invariant, length-map (take i names) name_of, length-take-le i names (omega arith), c.requires.few, c.args.texts.ok.0, ap length c.deref-name-items.ensures.value)
 
-pub invariant_of-result : goal.invariant_of-result
-invariant_of-result c = rw (kept c, ← c.args.texts.ok.0) c.requires.few
+pub loop-name-preserved : goal.loop-name-preserved
+loop-name-preserved c =
+    let differ = subst (λ (names : List PlSmallStr). IsDistinct bytes_eq (map name_of names)) (sym c.deref-name-items.ensures.value) c.requires.differ in
+    text_more c.deref-name-items.result.now c.loop-name.name-index c.name-item.result c.loop-name.map c.number_of.new.self c.as_str.result.now differ c.loop-name-test.true c.name-item.is c.as_str.ensures
+    c.loop-name.invariant c.in_ok-number_of.ensures.texts
 
 pub returns-clause-ok : goal.returns-clause-ok
-returns-clause-ok c = ap (map name_of) (kept c)
+returns-clause-ok c =
+    c.loop-name.invariant
+    ∙ ap (map name_of) (take_all c.loop-name.name-index c.deref-name-items.result.now (omega (arith, c.loop-name-test.false)) ∙ c.deref-name-items.ensures.value)

@@ -2,7 +2,8 @@ use Rattle.std.proofs.Common.{◌++◌, ◌∷◌, [], ◌∙◌, List, length, 
 use Rattle.std.proofs.lemmas.List.{length-take-le, take_more}
 use Rattle.gb_defs.specs.Slot.{Slot, Nil, slot_at}
 use Rattle.gb_defs.specs.Table.{coded_slot, with_text}
-use Rattle.gb_logical.proofs.CodingLemmas.{AreCoded, after_few, coded_more}
+use Rattle.gb_logical.specs.CategoricalBuilder.{AreCoded}
+use Rattle.gb_logical.proofs.CodingLemmas.{after_few, coded_more}
 use Rattle.gb_logical.proofs.categorical.codes.code_texts.Goals as goal
 
 pub code_text-requires : goal.code_text-requires

@@ -1,5 +1,5 @@
 use Rattle.std.proofs.Common.{take}
-use Rattle.gb_logical.proofs.CodingLemmas.{AreCoded}
+use Rattle.gb_logical.specs.CategoricalBuilder.{AreCoded}
 use Rattle.gb_logical.proofs.categorical.codes.code_texts.Given as goal
 
 abbrev pub invariant-loop-i : goal.invariant-loop-i

@@ -1,0 +1,16 @@
+use Rattle.std.proofs.Common.{◌∙◌, ap, sym, take, ◌++◌, ◌∷◌, [], arith}
+use Rattle.gb_defs.specs.ColumnType.{Boolean, Flat}
+use Rattle.gb_defs.specs.Slot.{Slot, slot_at}
+use Rattle.gb_defs.specs.Fold.{wrap, total, valid, picked}
+use Rattle.gb_defs.proofs.FoldLemmas.{picked_more}
+use Rattle.gb_run.proofs.FoldingLemmas.{flag_next}
+use Rattle.gb_run.proofs.folds.number_fold.trues_at.Goals as goal
+
+pub loop-place-preserved : goal.loop-place-preserved
+loop-place-preserved g c =
+    let slots = c.args.column.now.slots in
+    let rows = g.R.GroupRows.rows c.args.rows.now in
+    let before = picked slots (take c.loop-place.place rows) in
+    flag_next _ c.loop-place.sum c.with_flag-sum.result before c.with_flag-sum.ensures c.loop-place.invariant
+    ∙ ap (λ (s : Slot). wrap (Flat Boolean) (total (valid (before ++ s ∷ [])))) (c.get.ensures ∙ ap (slot_at slots) c.row_at.ensures)
+    ∙ ap (λ ss. wrap (Flat Boolean) (total (valid ss))) (sym (picked_more slots rows c.loop-place.place (omega arith)))

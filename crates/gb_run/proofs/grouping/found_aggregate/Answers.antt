@@ -1,0 +1,23 @@
+use Rattle.std.proofs.Common.{◌<◌, subst, sym, All, ℕ}
+use Rattle.gb_defs.specs.Column.{frame_height}
+use Rattle.gb_base.specs.PlSmallStr.{name_of}
+use Rattle.gb_groups.specs.GroupsType.{groups_of}
+use Rattle.gb_series.specs.Series.{value_of}
+use Rattle.gb_series.proofs.FrameLemmas.{found_long}
+use Rattle.gb_defs.specs.Groups.{AreMembers, lists_in}
+use Rattle.gb_run.proofs.grouping.found_aggregate.Goals as goal
+
+pub aggregate-requires-clause-groups : goal.aggregate-requires-clause-groups
+aggregate-requires-clause-groups c =
+    let frame = c.args.frame.now in
+    let long = found_long (frame_height frame) frame (name_of c.args.agg.now.column) (value_of c.in_ok-column.column.now) c.requires.frame.aligned (rw (← c.as_str.ensures) c.in_ok-column.ensures.ok) in
+    record {
+      rows = subst (λ (n : ℕ). All (AreMembers n) (lists_in (groups_of c.args.groups.now))) (sym long) c.requires.rows;
+      few = c.requires.few;
+    }
+
+pub aggregate-requires-clause-short : goal.aggregate-requires-clause-short
+aggregate-requires-clause-short c =
+    let frame = c.args.frame.now in
+    let long = found_long (frame_height frame) frame (name_of c.args.agg.now.column) (value_of c.in_ok-column.column.now) c.requires.frame.aligned (rw (← c.as_str.ensures) c.in_ok-column.ensures.ok) in
+    subst (λ (n : ℕ). n < 4294967296) (sym long) c.requires.short

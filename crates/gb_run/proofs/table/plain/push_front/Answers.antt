@@ -1,0 +1,8 @@
+use Rattle.std.proofs.lemmas.Str.{IsUtf8-from_ascii}
+use Rattle.gb_run.proofs.PlainLemmas.{cell_ascii}
+use Rattle.gb_run.proofs.table.plain.push_front.Goals as goal
+
+pub push_cell-requires-clause-is_text : goal.push_cell-requires-clause-is_text
+push_cell-requires-clause-is_text c = λ ascii.
+    let cut = rw c.in-Some-2.is at c.in_ok-cell.ensures in
+    IsUtf8-from_ascii _ (cell_ascii c.args.text.now c.in-Some-2.cell.now c.in-Some-2.rest.now c.in-Some-2.last cut (c.requires.ascii ascii))

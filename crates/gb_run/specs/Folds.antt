@@ -1,0 +1,44 @@
+-- Folds over lists of rows.
+use Rattle.std.specs.Prelude.{ℕ, ℤ, List, length, map, All, Option, Some, None, if◌then◌else◌}
+use Rattle.gb_defs.specs.Slot.{Slot, Num}
+use Rattle.gb_defs.specs.ColumnType.{ColumnType}
+use Rattle.gb_defs.specs.Column.{ColumnValue, fresh_column}
+use Rattle.gb_defs.specs.Fold.{Method, Sum, fold_of, number_slot, sum_type}
+use Rattle.gb_defs.specs.Groups.{AreMembers, Grouping, HasRowNumbers, lists_in}
+use Rattle.gb_defs.specs.Fault.{Fault, has_sum, unfit_operation, unfit_or}
+use Rattle.gb_base.specs.PlSmallStr.{name_of}
+use Rattle.gb_run.specs.declared.words.Agg.{Agg}
+use Rattle.gb_run.specs.Request.{method_of}
+
+-- the fold of a column over a list of rows
+abbrev pub fold_in : Method → ColumnValue → List ℕ → Slot
+fold_in method c rows = fold_of method c.dtype c.slots rows
+
+-- numbers as slots, none of them null
+abbrev pub number_slots : {N : Type 0} → (N → ℤ) → List N → List Slot
+number_slots number numbers = map (λ n. Num (number n)) numbers
+
+-- how many rows there are
+abbrev pub rows_fold : List ℕ → Slot
+rows_fold rows = number_slot (length rows)
+
+-- a column of what is made of each list of rows
+abbrev pub fold_column : List ℕ → ColumnType → (List ℕ → Slot) → List (List ℕ) → ColumnValue
+fold_column name dtype fold lists = fresh_column name dtype (map fold lists)
+
+-- the sums of a column over lists of rows, where its type has sums
+abbrev pub sums_of_column : List ℕ → ColumnValue → List (List ℕ) → Option ColumnValue
+sums_of_column name c lists = if has_sum c.dtype then Some (fold_column name (sum_type c.dtype) (fold_in Sum c) lists) else None
+
+-- why an aggregate of a column is refused for the column's type
+abbrev pub unfit_in : List ℕ → Method → ColumnValue → Option Fault
+unfit_in name method c = unfit_or name (unfit_operation method c.dtype) None
+
+-- the same of an aggregate that is asked
+abbrev pub agg_unfit : Agg → ColumnValue → Option Fault
+agg_unfit agg c = unfit_in (name_of agg.column) (method_of agg.method) c
+
+-- the rows of the groups are rows of the column, and the groups have numbers
+pub record AreGroupsOf (c : ColumnValue) (groups : Grouping) : Type 0 where
+  pub rows : All (AreMembers (length c.slots)) (lists_in groups)
+  pub few : HasRowNumbers (length groups.pairs)

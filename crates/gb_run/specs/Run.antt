@@ -1,0 +1,145 @@
+-- How a run of the program ends, over what its devices had before it and have after it. A device that
+-- does not tell its bytes has None.
+use Rattle.std.specs.Prelude.{◌≡◌, ℕ, ◌<◌, ◌≤◌, ◌+◌, Bool, true, false, List, [], ◌++◌, length, map, take, ◌⊎◌, ◌∷◌, Option, Some, None, IfSome, IsSome, option_map, Result, Ok, Err, String}
+use Rattle.std.specs.String.{string_bytes}
+use Rattle.gb_defs.specs.Fault.{Fault}
+use Rattle.gb_defs.specs.Outcome.{Outcome, BadTable, BadGroup, Report, outcome}
+use Rattle.gb_defs.specs.Request as asked
+use Rattle.gb_defs.specs.Table as table
+use Rattle.gb_base.specs.Device.{Rose}
+use Rattle.gb_run.specs.Status.{Tells, fault_value}
+use Rattle.gb_run.specs.declared.status.Status.{Status}
+use Rattle.gb_run.specs.declared.status.Status.TheVariants.{Done, Usage, Table, Group, ReadFault, WriteFault, TooLong, NoMemory}
+
+-- ---- what is asked, and what it comes to
+
+-- what the words ask, the bytes that the source tells, and the longest input
+pub record Task : Type 0 where
+  pub request : Option asked.Request
+  pub input : Option (List ℕ)
+  pub limit : ℕ
+
+-- the request that the words spell
+abbrev pub asked_by : {A : Type 0} → List (String A) → Option asked.Request
+asked_by words = asked.request (map string_bytes words)
+
+abbrev pub task_of : {A : Type 0} → List (String A) → Option (List ℕ) → ℕ → Task
+task_of words input limit = record { request = asked_by words; input = input; limit = limit }
+
+-- where the words spell a request and the source tells its bytes
+abbrev pub WhereTold : Task → (asked.Request → List ℕ → Type 0) → Type 0
+WhereTold task P = (q : asked.Request) (bytes : List ℕ) → task.request ≡ Some q → task.input ≡ Some bytes → P q bytes
+
+-- the words spell a request; where the bytes are told they are within the limit, and this is the outcome
+pub record Comes (task : Task) (o : Outcome) : Type 0 where
+  pub asked : IsSome task.request
+  pub comes : WhereTold task (λ q bytes. (length bytes ≤ task.limit) × (outcome q bytes ≡ o))
+
+-- where all is told and within the limit, this holds of the outcome
+abbrev pub OfOutcome : Task → (Outcome → Type 0) → Type 0
+OfOutcome task P = WhereTold task (λ q bytes. length bytes ≤ task.limit → P (outcome q bytes))
+
+-- the words spell a request, and the bytes that the source tells are more than the limit
+pub record IsTooLong (task : Task) : Type 0 where
+  pub asked : IsSome task.request
+  pub long : IfSome task.input (λ bytes. task.limit < length bytes)
+
+-- the outcome is a text, of which this holds
+abbrev pub Writes : Task → (List ℕ → Type 0) → Type 0
+Writes task P = (text : List ℕ) × Comes task (Report text) × P text
+
+-- ---- statuses
+
+abbrev pub IsOneOf : List Status → Status → Type 0
+IsOneOf [] s = ⊥
+IsOneOf (t ∷ ts) s = (s ≡ t) ⊎ IsOneOf ts s
+
+-- the status names this fault of the table
+abbrev pub IsTable : table.TableFault → Status → Type 0
+IsTable f (Table fault) = f ≡ fault_value fault
+IsTable f _ = ⊥
+
+-- whether a run with this status has read its input to the end
+abbrev pub has_ended : Status → Bool
+has_ended Done = true
+has_ended (Table fault) = true
+has_ended (Group e) = true
+has_ended WriteFault = true
+has_ended _ = false
+
+-- the status of a run that went through, or that stopped with a status
+abbrev pub status_of : Result (Unit {0}) Status → Status
+status_of (Ok u) = Done
+status_of (Err s) = s
+
+-- why there is no text for this outcome
+abbrev pub IsRefusedReport : Status → Outcome → Type 0
+IsRefusedReport (Table fault) o = o ≡ BadTable (fault_value fault)
+IsRefusedReport (Group e) o = (f : Fault) × Tells e f × (o ≡ BadGroup f)
+IsRefusedReport NoMemory o = Unit {0}
+IsRefusedReport _ o = ⊥
+
+-- ---- devices
+
+-- at most this many bytes were taken from the front
+abbrev pub HasTaken : ℕ → Option (List ℕ) → Option (List ℕ) → Type 0
+HasTaken most None after = Unit {0}
+HasTaken most (Some before) None = ⊥
+HasTaken most (Some before) (Some after) = length before ≤ length after + most
+
+-- where the source tells its bytes, none is left
+abbrev pub IsReadToEnd : Option (List ℕ) → Option (List ℕ) → Type 0
+IsReadToEnd before after = IfSome before (λ _. after ≡ Some [])
+
+-- so many bytes were moved from the front of what was left behind the bytes
+pub record HasMoved (count : ℕ) (bytes bytes_after : List ℕ) (before after : Option (List ℕ)) : Type 0 where
+  pub piece : List ℕ
+  pub long : length piece ≡ count
+  pub bytes_is : bytes_after ≡ bytes ++ piece
+  pub left_is : before ≡ option_map (λ rest. piece ++ rest) after
+
+-- why no bytes were moved
+abbrev pub IsPieceFault : ℕ → ℕ → Status → Type 0
+IsPieceFault faults faults_after ReadFault = Rose faults faults_after
+IsPieceFault faults faults_after NoMemory = Unit {0}
+IsPieceFault faults faults_after _ = ⊥
+
+-- why the input was not read to its end
+abbrev pub IsInputFault : ℕ → ℕ → ℕ → Option (List ℕ) → Status → Type 0
+IsInputFault faults faults_after limit left ReadFault = Rose faults faults_after
+IsInputFault faults faults_after limit left TooLong = IfSome left (λ bytes. limit < length bytes)
+IsInputFault faults faults_after limit left NoMemory = Unit {0}
+IsInputFault faults faults_after limit left _ = ⊥
+
+-- what a sink holds is what it held and a part of the text, less than the whole
+pub record HoldsPart (text : List ℕ) (before after : Option (List ℕ)) : Type 0 where
+  pub count : ℕ
+  pub less : count < length text
+  pub part : after ≡ option_map (λ held. held ++ take count text) before
+
+-- the text was written behind what the sink held
+abbrev pub Holds : List ℕ → Option (List ℕ) → Option (List ℕ) → Type 0
+Holds text before after = after ≡ option_map (λ held. held ++ text) before
+
+-- ---- a run
+
+-- what a run is given, and what its devices tell before and after it
+pub record Run : Type 0 where
+  pub task : Task
+  pub read_faults : ℕ
+  pub read_faults_after : ℕ
+  pub held : Option (List ℕ)
+  pub held_after : Option (List ℕ)
+  pub write_faults : ℕ
+  pub write_faults_after : ℕ
+
+-- why a run ended with this status
+abbrev pub HasCause : Run → Status → Type 0
+HasCause run Done = Writes run.task (λ text. Holds text run.held run.held_after)
+HasCause run Usage = run.task.request ≡ None
+HasCause run (Table fault) = Comes run.task (BadTable (fault_value fault))
+HasCause run (Group e) = (f : Fault) × Tells e f × Comes run.task (BadGroup f)
+HasCause run ReadFault = IsSome run.task.request × Rose run.read_faults run.read_faults_after
+HasCause run WriteFault = Writes run.task (λ text. HoldsPart text run.held run.held_after) × Rose run.write_faults run.write_faults_after
+HasCause run TooLong = IsTooLong run.task
+HasCause run NoMemory = Unit {0}

@@ -1,0 +1,14 @@
+//! A run of the program, from its words and its input to its status: it reads a typed CSV table, groups it
+//! and writes the grouped table. `run` is its top call, and carries the theorem of what the program does.
+#![tactic(auto)]
+
+pub mod folds;
+mod grouping;
+mod report;
+pub mod run;
+pub mod status;
+mod streams;
+pub mod table;
+mod text;
+mod type_word;
+mod words;

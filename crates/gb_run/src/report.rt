@@ -1,0 +1,114 @@
+//! From the table that a source has to the text of the answer.
+
+ghost use Rattle.std.specs.Prelude.{◌≡◌, ◌≢◌, ◌≤◌, ◌+◌, Err, IfErr, IfOk};
+ghost use Rattle.gb_defs.specs.Outcome.{Report, outcome};
+ghost use Rattle.gb_base.specs.PlSmallStr.{name_of};
+ghost use Rattle.gb_run.specs.Asked.{asked_names, names_in};
+ghost use Rattle.gb_run.specs.Request.{HasOneKey, aggs_of, group_by, request_of};
+ghost use Rattle.gb_run.specs.Run.{HasTaken};
+ghost use Rattle.gb_run.specs.Stream.{HasReadAll, IsRefusedText};
+ghost use Rattle.gb_run.specs.declared.status.Status.TheVariants as status;
+
+use crate::grouping::group_frame;
+use crate::status::Status;
+use crate::table::blocks::{Reading, read_table};
+use crate::text;
+use crate::words::{Agg, Request, ToolOptions};
+use gb_base::device::{Gate, Source};
+use gb_base::pool::Pool;
+use gb_base::small_str::PlSmallStr;
+use std::alloc::{AllocError, Global};
+use std::thread::Threads;
+
+// The pool that the options ask, each within its bounds.
+fn pool_of(options: &ToolOptions) -> Pool {
+    Pool::new(
+        options.workers.clamp(1, 64),
+        options.partitions.clamp(1, 1024),
+        options.threshold.max(1),
+        options.piece.max(1),
+        options.seed,
+    )
+}
+
+// How many bytes of the input are held at a time.
+const BLOCK_BYTES: usize = 8_388_608;
+
+/// The text of the answer to the request over the table that the source has left, if it is at most `limit`
+/// bytes. Today a request has one key.
+pub fn report<R: Threads + Sync, S: Source, G: Gate + Sync>(
+    rt: &R,
+    alloc: Global,
+    request: &Request,
+    source: &mut S,
+    limit: u64,
+    gate: &G,
+) -> Result<Vec<u8>, Status>
+    requires limit { limit ≤ 4294967295 }
+    requires one_key { HasOneKey (request_of request.now) }
+    ensures ok { IfOk result (λ text. HasReadAll limit (S.left source.old) (S.left source.new)
+        (λ bytes. outcome (request_of request.now) bytes ≡ Report text.items)) }
+    ensures err { IfErr result (IsRefusedText (outcome (request_of request.now))
+        (S.faults source.old) (S.faults source.new) limit
+        (S.left source.old) (S.left source.new)) }
+    ensures taken { result ≢ Err status.ReadFault
+        → HasTaken (limit + 65536) (S.left source.old) (S.left source.new) }
+    ensures kept { S.faults source.old ≤ S.faults source.new }
+{
+    match request {
+        Request::Group { by, aggs, options } => {
+            group_report(rt, alloc, &by[0], aggs, options, source, limit, gate)
+        }
+    }
+}
+
+// The names of the key and of the columns that are aggregated.
+fn names_asked<'a>(
+    alloc: Global,
+    by: &'a PlSmallStr,
+    aggs: &'a [Agg],
+) -> Result<Vec<&'a str>, AllocError>
+    ensures { let asked = asked_names (name_of by.now) (aggs_of aggs.now) in
+        IfOk result (λ names. names_in names.items ≡ asked) }
+{
+    let mut names = Vec::with_capacity(alloc, aggs.len() + 1)?;
+    names.push(by.as_str())?;
+    for agg in aggs {
+        names.push(agg.column.as_str())?;
+    }
+    Ok(names)
+}
+
+// The text of the grouped table.
+fn group_report<R: Threads + Sync, S: Source, G: Gate + Sync>(
+    rt: &R,
+    alloc: Global,
+    by: &PlSmallStr,
+    aggs: &[Agg],
+    options: &ToolOptions,
+    source: &mut S,
+    limit: u64,
+    gate: &G,
+) -> Result<Vec<u8>, Status>
+    requires limit { limit ≤ 4294967295 }
+    ensures ok { IfOk result (λ text. HasReadAll limit (S.left source.old) (S.left source.new)
+        (λ bytes. outcome (group_by by.now aggs.now options.now) bytes ≡ Report text.items)) }
+    ensures err { IfErr result (IsRefusedText (outcome (group_by by.now aggs.now options.now))
+        (S.faults source.old) (S.faults source.new) limit
+        (S.left source.old) (S.left source.new)) }
+    ensures taken { result ≢ Err status.ReadFault
+        → HasTaken (limit + 65536) (S.left source.old) (S.left source.new) }
+    ensures kept { S.faults source.old ≤ S.faults source.new }
+{
+    let names = names_asked(alloc, by, aggs)?;
+    let pool = pool_of(options);
+    let reading = Reading {
+        names: &names,
+        null_word: options.null_word.as_str(),
+        workers: pool.workers(),
+        block: BLOCK_BYTES,
+    };
+    let frame = read_table(rt, alloc, source, limit, &reading)?;
+    let answer = group_frame(rt, alloc, &frame, by, aggs, &pool, gate)?;
+    Ok(text::text_of(alloc, &answer, options.null_word.as_str())?)
+}

@@ -1,0 +1,157 @@
+//! The top call of the program.
+
+ghost use Rattle.std.specs.Prelude.{◌≡◌, ◌≢◌, ◌≤◌, ◌+◌, ◌⊎◌, [], ◌∷◌, ◌<◌, ℕ, Err, IfErr, IsSome, List, None, Some, length, true};
+ghost use Rattle.gb_defs.specs.Fault as fault;
+ghost use Rattle.gb_defs.specs.Outcome.{BadGroup, BadTable, Report};
+ghost use Rattle.gb_defs.specs.Table as table;
+ghost use Rattle.gb_base.specs.Device.{Rose};
+ghost use Rattle.gb_base.specs.PlSmallStr.{name_of};
+ghost use Rattle.gb_base.specs.declared.small_str.PlSmallStr.{PlSmallStr};
+ghost use Rattle.gb_base.specs.declared.error.PolarsError.{PolarsError};
+ghost use Rattle.gb_base.specs.declared.error.PolarsError.TheVariants.{ColumnNotFound, ComputeError};
+ghost use Rattle.gb_run.specs.Run.{Comes, HasCause, HasTaken, Holds, HoldsPart, IsOneOf};
+ghost use Rattle.gb_run.specs.Run.{IsReadToEnd, IsTable, IsTooLong, OfOutcome, Run, WhereTold, Writes};
+ghost use Rattle.gb_run.specs.Run.{asked_by, has_ended, status_of, task_of};
+ghost use Rattle.gb_run.specs.Status.{IsTold, fault_value};
+ghost use Rattle.gb_run.specs.declared.status.TableFault.{TableFault};
+ghost use Rattle.gb_run.specs.declared.status.Status.TheVariants as status;
+
+use crate::report::report;
+use crate::status::Status;
+use crate::streams::write_text;
+use crate::words::request_of;
+use gb_base::device::{Gate, Sink, Source};
+use std::alloc::Global;
+use std::thread::Threads;
+
+/// What a run may take.
+#[derive(Clone, Copy, Debug, PartialEq, Eq)]
+pub struct Limits {
+    /// The longest input, in bytes.
+    pub input_bytes: u64,
+}
+
+// Reads, reports and writes; the error is the status of a run that does not go through.
+fn answer<R: Threads + Sync, S: Source, W: Sink, G: Gate + Sync>(
+    rt: &R,
+    alloc: Global,
+    words: &[String],
+    limit: u64,
+    source: &mut S,
+    sink: &mut W,
+    gate: &G,
+) -> Result<(), Status>
+    requires limit { limit ≤ 4294967295 }
+    ensures cause { let run : Run = record {
+      task = task_of words.now (S.left source.old) limit;
+      read_faults = S.faults source.old;
+      read_faults_after = S.faults source.new;
+      held = W.held sink.old;
+      held_after = W.held sink.new;
+      write_faults = W.faults sink.old;
+      write_faults_after = W.faults sink.new;
+    } in HasCause run (status_of result) }
+    ensures ended { has_ended (status_of result) ≡ true
+        → IsReadToEnd (S.left source.old) (S.left source.new) }
+    ensures unchanged { IfErr result (λ s. s ≢ status.WriteFault → sink.new ≡ sink.old) }
+    ensures taken { result ≢ Err status.ReadFault
+        → HasTaken (limit + 65536) (S.left source.old) (S.left source.new) }
+    ensures read_faults { S.faults source.old ≤ S.faults source.new }
+    ensures write_faults { W.faults sink.old ≤ W.faults sink.new }
+{
+    let request = match request_of(alloc, words) {
+        Ok(Some(request)) => request,
+        Ok(None) => return Err(Status::Usage),
+        Err(_) => return Err(Status::NoMemory),
+    };
+    let text = report(rt, alloc, &request, source, limit, gate)?;
+    write_text(sink, text.as_slice())?;
+    Ok(())
+}
+
+/// Reads the table, answers the request of the words over it, and writes the answer's text. Today
+/// nothing is written to the notes. Each piece of work that a thread does enters the gate, and leaves
+/// it: only a test's gate waits there.
+pub fn run<R: Threads + Sync, S: Source, W: Sink, E: Sink, G: Gate + Sync>(
+    rt: &R,
+    alloc: Global,
+    words: &[String],
+    limits: Limits,
+    source: &mut S,
+    sink: &mut W,
+    notes: &mut E,
+    gate: &G,
+) -> Status
+    requires { limits.input_bytes ≤ 4294967295 }
+
+    // The words spell no request.
+    ensures usage { result ≡ status.Usage → asked_by words.now ≡ None }
+    ensures no_request { asked_by words.now ≡ None
+        → IsOneOf (status.Usage ∷ status.NoMemory ∷ []) result }
+
+    // The source failed.
+    ensures read_fault { result ≡ status.ReadFault
+        → IsSome (asked_by words.now) × Rose (S.faults source.old) (S.faults source.new) }
+
+    // The input is longer than the limit.
+    ensures too_long { result ≡ status.TooLong
+        → IsTooLong (task_of words.now (S.left source.old) limits.input_bytes) }
+    ensures long_input { WhereTold (task_of words.now (S.left source.old) limits.input_bytes)
+        (λ q bytes. limits.input_bytes < length bytes
+        → IsOneOf (status.TooLong ∷ status.ReadFault ∷ status.NoMemory ∷ []) result) }
+
+    // The table is at fault.
+    ensures table { (f : TableFault) → result ≡ status.Table f
+        → Comes (task_of words.now (S.left source.old) limits.input_bytes)
+        (BadTable (fault_value f)) }
+    ensures bad_table { OfOutcome (task_of words.now (S.left source.old) limits.input_bytes)
+        (λ o. (f : table.TableFault) → o ≡ BadTable f
+        → IsTable f result ⊎ IsOneOf (status.ReadFault ∷ status.NoMemory ∷ []) result) }
+
+    // The grouping is at fault: a column is missing, or there is another fault.
+    ensures column_not_found { (name : PlSmallStr) → result ≡ status.Group (ColumnNotFound name)
+        → Comes (task_of words.now (S.left source.old) limits.input_bytes)
+        (BadGroup (fault.ColumnNotFound (name_of name))) }
+    ensures group { result ≡ status.Group ComputeError
+        → (f : fault.Fault) × ((name : List ℕ) → f ≢ fault.ColumnNotFound name)
+        × Comes (task_of words.now (S.left source.old) limits.input_bytes) (BadGroup f) }
+    ensures group_errors { (e : PolarsError) → result ≡ status.Group e
+        → (e ≡ ComputeError) ⊎ ((name : PlSmallStr) × (e ≡ ColumnNotFound name)) }
+    ensures bad_group { OfOutcome (task_of words.now (S.left source.old) limits.input_bytes)
+        (λ o. (f : fault.Fault) → o ≡ BadGroup f
+        → IsTold f result ⊎ IsOneOf (status.ReadFault ∷ status.NoMemory ∷ []) result) }
+
+    // The sink failed, and has taken a part of the text.
+    ensures write_fault { result ≡ status.WriteFault
+        → Rose (W.faults sink.old) (W.faults sink.new) }
+    ensures part { result ≡ status.WriteFault
+        → Writes (task_of words.now (S.left source.old) limits.input_bytes)
+        (λ text. HoldsPart text (W.held sink.old) (W.held sink.new)) }
+
+    // The text was written whole.
+    ensures done { result ≡ status.Done
+        → Writes (task_of words.now (S.left source.old) limits.input_bytes)
+        (λ text. Holds text (W.held sink.old) (W.held sink.new)) }
+
+    // No device failed, and there is a text to write.
+    ensures complete { OfOutcome (task_of words.now (S.left source.old) limits.input_bytes)
+        (λ o. (text : List ℕ) → o ≡ Report text
+        → ¬ (Rose (S.faults source.old) (S.faults source.new))
+        → ¬ (Rose (W.faults sink.old) (W.faults sink.new))
+        → IsOneOf (status.Done ∷ status.NoMemory ∷ []) result) }
+
+    // What the devices hold and have left.
+    ensures ended { has_ended result ≡ true
+        → IsReadToEnd (S.left source.old) (S.left source.new) }
+    ensures unchanged { result ≢ status.Done → result ≢ status.WriteFault → sink.new ≡ sink.old }
+    ensures notes { notes.new ≡ notes.old }
+    ensures taken { result ≢ status.ReadFault
+        → HasTaken (limits.input_bytes + 65536) (S.left source.old) (S.left source.new) }
+    ensures read_faults { S.faults source.old ≤ S.faults source.new }
+    ensures write_faults { W.faults sink.old ≤ W.faults sink.new }
+{
+    match answer(rt, alloc, words, limits.input_bytes, source, sink, gate) {
+        Ok(()) => Status::Done,
+        Err(status) => status,
+    }
+}

@@ -1,0 +1,390 @@
+//! A table read from its source block by block, so that its text is not held whole. Whole lines of a block are
+//! read by all workers, while the next is moved from the source behind what is left of it.
+
+ghost use Rattle.std.specs.Prelude.{◌≡◌, ◌≢◌, ◌≤◌, ◌+◌, ◌<◌, [], List, ℕ, Option, Err, Ok, true, drop, length, map, IfErr, IfOk, IfSome, OnOk};
+ghost use Rattle.std.specs.Bool.{OnTrue};
+ghost use Rattle.std.specs.Str.{IsAscii};
+ghost use Rattle.csv.specs.Records.{fields_of};
+ghost use Rattle.gb_defs.specs.Column.{rechunked};
+ghost use Rattle.gb_defs.specs.Table.{table};
+ghost use Rattle.gb_run.specs.Asked.{asked_table, names_in};
+ghost use Rattle.gb_run.specs.Building.{in_one_chunk};
+ghost use Rattle.gb_run.specs.Part.{HasPart, IsHeaderRefused};
+ghost use Rattle.gb_run.specs.Refusal.{IsRefusedTable};
+ghost use Rattle.gb_run.specs.Run.{HasTaken};
+ghost use Rattle.gb_run.specs.Stream.{HasReadAll, IsFewFront, IsFilled, IsFront, IsRefusedInput, IsSomeStreamed, IsStarted, IsStreamed};
+ghost use Rattle.gb_run.specs.declared.status.Status.TheVariants as status;
+
+use crate::status::{Status, TableError};
+use crate::streams::{Progress, fill, fill_all};
+use crate::table::builder::ColumnBuilder;
+use crate::table::header::columns_of_header;
+use crate::table::lines::{Lines, append_columns, count_parts};
+use crate::table::plain::{is_line_end, plain_header, without_mark};
+use crate::table::{csv_behind, frame_of, table_of};
+use csv::ByteRecord;
+use gb_base::device::Source;
+use gb_series::frame::DataFrame;
+use std::alloc::{AllocError, Global};
+use std::mem::swap;
+use std::thread::{Threads, join_mut};
+
+// How many bytes the first block has at most. Each later one has at most twice as many as the one before.
+const FIRST_BLOCK: usize = 1_048_576;
+
+/// What a table is read for, and how.
+#[derive(Clone, Copy)]
+pub struct Reading<'a> {
+    /// The columns that are kept.
+    pub names: &'a [&'a str],
+    pub null_word: &'a str,
+    pub workers: usize,
+    /// How many bytes are held at a time, one line at least.
+    pub block: usize,
+}
+
+/// A header with its columns, and where the lines behind it begin.
+#[derive(Drop)]
+struct Start {
+    header: ByteRecord,
+    columns: Vec<ColumnBuilder>,
+    lines: usize,
+}
+
+// The header in front of the first bytes of a table. None where it is not plain or at fault, or where
+// nothing stands behind it.
+fn start_of(alloc: Global, held: &[u8], names: &[&str]) -> Result<Option<Start>, AllocError>
+    ensures { IfOk result (λ found. IfSome found (IsStarted (names_in names.now) held.now)) }
+{
+    let text = without_mark(held);
+    if held.len() < 3 || text.is_empty() || is_line_end(text[0]) {
+        return Ok(None);
+    }
+    let Some((header, rest)) = plain_header(alloc, text)? else {
+        return Ok(None);
+    };
+    if rest.is_empty() {
+        return Ok(None);
+    }
+    let lines = held.len() - rest.len();
+    match columns_of_header(alloc, &header, names) {
+        Ok(columns) => Ok(Some(Start {
+            header,
+            columns,
+            lines,
+        })),
+        Err(TableError::Fault(_)) => Ok(None),
+        Err(TableError::NoMemory) => Err(AllocError),
+    }
+}
+
+// Leaves of the bytes those from a place on.
+fn keep_from(held: &mut Vec<u8>, place: usize) -> Result<(), AllocError>
+    requires { place ≤ length held.old.items }
+    ensures { OnOk result (held.new.items ≡ drop place held.old.items) }
+{
+    let rest = Vec::from_slice(*held.allocator(), &held[place..])?;
+    held.clear();
+    held.extend_from_slice(&rest)?;
+    Ok(())
+}
+
+// Where the last line begins, if one ends before it.
+fn last_line(text: &[u8]) -> Option<usize>
+    ensures { IfSome result (λ place. place < length text.now) }
+{
+    for place in (1..text.len()).rev() {
+        if text[place - 1] == b'\n' {
+            return Some(place);
+        }
+    }
+    None
+}
+
+// What is held of a table, the room for the block behind it, and how far the source was read.
+#[derive(Drop)]
+struct Window {
+    held: Vec<u8>,
+    next: Vec<u8>,
+    now: Progress,
+}
+
+// The columns of the lines up to a place, read in so many parts, while the next bytes of the source are
+// moved behind those of another text. With one part no thread is started.
+fn read_ahead<R: Threads + Sync, S: Source>(
+    rt: &R,
+    alloc: Global,
+    lines: &Lines<'_>,
+    place: usize,
+    parts: usize,
+    source: &mut S,
+    next: &mut Vec<u8>,
+    read: u64,
+    limit: u64,
+    enough: usize,
+) -> (
+    Result<Option<Vec<ColumnBuilder>>, TableError>,
+    Result<Progress, Status>,
+)
+    requires parts { 1 ≤ parts }
+    requires place { place ≤ length lines.now.text.now }
+    requires few { length lines.now.text.now ≤ 4294967295 }
+    requires ascii { lines.now.ascii ≡ true → IsAscii lines.now.text.now }
+    requires within { read ≤ limit }
+    requires limit { limit ≤ 4294967295 }
+    ensures ok { IfOk result.0 (λ found. IfSome found (λ columns.
+        HasPart lines.now 0 place columns.items)) }
+    ensures err { IfErr result.0 (IsHeaderRefused lines.now) }
+    ensures filled { IsFilled limit read next.old.items next.new.items (S.left source.old)
+        (S.left source.new) (S.faults source.old) (S.faults source.new) result.1 }
+{
+    if parts == 1 {
+        let found = lines.read_to(rt, alloc, place, 1);
+        return (found, fill(source, next, read, limit, enough));
+    }
+    join_mut(
+        rt,
+        &mut || -> Result<Option<Vec<ColumnBuilder>>, TableError>
+            requires { (1 ≤ parts)
+                × (place ≤ length lines.now.text.now)
+                × (length lines.now.text.now ≤ 4294967295)
+                × (lines.now.ascii ≡ true → IsAscii lines.now.text.now) }
+        { lines.read_to(rt, alloc, place, parts) },
+        &mut || fill(source, next, read, limit, enough),
+    )
+}
+
+// Moves the lines of a block, but for the last, to the ends of the columns, and the next bytes of the source
+// behind the last. False where the source has ended, where the lines are not plain or do not read, or where
+// there is one line alone: then the columns are as they were.
+fn push_block<R: Threads + Sync, S: Source>(
+    rt: &R,
+    alloc: Global,
+    source: &mut S,
+    limit: u64,
+    reading: &Reading<'_>,
+    header: &ByteRecord,
+    columns: &mut Vec<ColumnBuilder>,
+    window: &mut Window,
+) -> Result<bool, Status>
+    requires limit { limit ≤ 4294967295 }
+    requires streamed { IsSomeStreamed (names_in reading.now.names.now) reading.now.null_word.now
+        (fields_of header.now) limit (S.left source.old) window.old.now.read
+        window.old.held.items columns.old.items }
+    requires ended { OnTrue window.old.now.ended (IfSome (S.left source.old) (λ rest. rest ≡ [])) }
+    requires ascii { OnTrue window.old.now.ascii (IsAscii window.old.held.items) }
+    ensures ok { OnOk result ((first : Option (List ℕ)) → IsStreamed
+        (names_in reading.now.names.now) reading.now.null_word.now (fields_of header.now)
+        limit first (S.left source.old) window.old.now.read window.old.held.items columns.old.items
+        → IsStreamed
+        (names_in reading.now.names.now) reading.now.null_word.now (fields_of header.now)
+        limit first (S.left source.new) window.new.now.read
+        window.new.held.items columns.new.items) }
+    ensures ended { OnOk result
+        (OnTrue window.new.now.ended (IfSome (S.left source.new) (λ rest. rest ≡ []))) }
+    ensures ascii { OnOk result (OnTrue window.new.now.ascii (IsAscii window.new.held.items)) }
+    ensures err { IfErr result (λ s. (first : Option (List ℕ)) → IsStreamed
+        (names_in reading.now.names.now) reading.now.null_word.now (fields_of header.now)
+        limit first (S.left source.old) window.old.now.read window.old.held.items columns.old.items
+        → IsRefusedInput reading.now.null_word.now (S.faults source.old) (S.faults source.new)
+        limit first (S.left source.new) s) }
+    ensures taken { result ≢ Err status.ReadFault → (first : Option (List ℕ)) → IsStreamed
+        (names_in reading.now.names.now) reading.now.null_word.now (fields_of header.now)
+        limit first (S.left source.old) window.old.now.read window.old.held.items columns.old.items
+        → HasTaken (limit + 65536) first (S.left source.new) }
+    ensures kept { S.faults source.old ≤ S.faults source.new }
+{
+    let Window { held, next, now } = window;
+    if now.ended {
+        return Ok(false);
+    }
+    let Some(place) = last_line(held) else {
+        return Ok(false);
+    };
+    next.clear();
+    next.extend_from_slice(&held[place..])?;
+    let lines = Lines {
+        header,
+        names: reading.names,
+        null_word: reading.null_word,
+        text: held.as_slice(),
+        ascii: now.ascii,
+    };
+    let parts = count_parts(place, reading.workers);
+    let enough = reading.block.min(held.len().saturating_mul(2));
+    let (found, filled) = read_ahead(
+        rt, alloc, &lines, place, parts, source, next, now.read, limit, enough,
+    );
+    *now = filled?;
+    // The header is not at fault, so that an error is want of memory.
+    let Ok(found) = found else {
+        return Err(Status::NoMemory);
+    };
+    match found {
+        Some(more) => {
+            append_columns(columns, more)?;
+            swap(held, next);
+            Ok(true)
+        }
+        None => {
+            held.truncate(place);
+            held.extend_from_slice(next)?;
+            now.ascii = false;
+            Ok(false)
+        }
+    }
+}
+
+// The frame of the columns and of all that is held behind them.
+fn finish<R: Threads + Sync>(
+    rt: &R,
+    alloc: Global,
+    reading: &Reading<'_>,
+    header: &ByteRecord,
+    mut columns: Vec<ColumnBuilder>,
+    held: Vec<u8>,
+    ascii: bool,
+) -> Result<DataFrame, TableError>
+    requires few { IsFewFront (names_in reading.now.names.now) reading.now.null_word.now
+        (fields_of header.now) held.items columns.items }
+    requires ascii { OnTrue ascii (IsAscii held.items) }
+    ensures ok { IfOk result (λ frame. (bytes : List ℕ) → length bytes ≤ 4294967295 →
+        IsFront (names_in reading.now.names.now) reading.now.null_word.now
+        (fields_of header.now) bytes held.items columns.items →
+        asked_table (names_in reading.now.names.now) bytes reading.now.null_word.now
+        ≡ Ok (map rechunked frame)) }
+    ensures err { IfErr result (λ e. (bytes : List ℕ) → length bytes ≤ 4294967295 →
+        IsFront (names_in reading.now.names.now) reading.now.null_word.now
+        (fields_of header.now) bytes held.items columns.items →
+        IsRefusedTable e (table bytes reading.now.null_word.now)) }
+{
+    let lines = Lines {
+        header,
+        names: reading.names,
+        null_word: reading.null_word,
+        text: held.as_slice(),
+        ascii,
+    };
+    let parts = count_parts(lines.text.len(), reading.workers);
+    // The header is not at fault, so that an error is want of memory.
+    let Ok(found) = lines.read_to(rt, alloc, lines.text.len(), parts) else {
+        return Err(TableError::NoMemory);
+    };
+    match found {
+        Some(more) => {
+            append_columns(&mut columns, more)?;
+            Ok(frame_of(columns)?)
+        }
+        None => Ok(csv_behind(alloc, columns, held, reading.null_word)?),
+    }
+}
+
+// The frame of the columns and of all that the source has left, behind what is held.
+fn finish_all<R: Threads + Sync, S: Source>(
+    rt: &R,
+    alloc: Global,
+    source: &mut S,
+    limit: u64,
+    reading: &Reading<'_>,
+    header: &ByteRecord,
+    columns: Vec<ColumnBuilder>,
+    mut held: Vec<u8>,
+    now: Progress,
+) -> Result<DataFrame, Status>
+    requires limit { limit ≤ 4294967295 }
+    requires streamed { IsSomeStreamed (names_in reading.now.names.now) reading.now.null_word.now
+        (fields_of header.now) limit (S.left source.old) now.read held.items columns.items }
+    requires ended { OnTrue now.ended (IfSome (S.left source.old) (λ rest. rest ≡ [])) }
+    requires ascii { OnTrue now.ascii (IsAscii held.items) }
+    ensures ok { IfOk result (λ frame. (first : Option (List ℕ)) → IsStreamed
+        (names_in reading.now.names.now) reading.now.null_word.now (fields_of header.now)
+        limit first (S.left source.old) now.read held.items columns.items →
+        HasReadAll limit first (S.left source.new)
+        (λ bytes. asked_table (names_in reading.now.names.now) bytes reading.now.null_word.now
+        ≡ Ok (map rechunked frame))) }
+    ensures err { IfErr result (λ s. (first : Option (List ℕ)) → IsStreamed
+        (names_in reading.now.names.now) reading.now.null_word.now (fields_of header.now)
+        limit first (S.left source.old) now.read held.items columns.items →
+        IsRefusedInput reading.now.null_word.now (S.faults source.old) (S.faults source.new)
+        limit first (S.left source.new) s) }
+    ensures taken { result ≢ Err status.ReadFault → (first : Option (List ℕ)) → IsStreamed
+        (names_in reading.now.names.now) reading.now.null_word.now (fields_of header.now)
+        limit first (S.left source.old) now.read held.items columns.items →
+        HasTaken (limit + 65536) first (S.left source.new) }
+    ensures kept { S.faults source.old ≤ S.faults source.new }
+{
+    let all = fill_all(source, &mut held, now, limit)?;
+    let frame = finish(rt, alloc, reading, header, columns, held, all.ascii)?;
+    Ok(frame)
+}
+
+/// The columns that are asked for of the table that the source has left, if it is at most `limit` bytes,
+/// in any chunks. Every cell of every column is checked, and the first fault in reading order is told with
+/// its row and column, once the source is read to its end. Lines are read by all workers; with one no thread
+/// is started.
+pub fn read_table<R: Threads + Sync, S: Source>(
+    rt: &R,
+    alloc: Global,
+    source: &mut S,
+    limit: u64,
+    reading: &Reading<'_>,
+) -> Result<DataFrame, Status>
+    requires { limit ≤ 4294967295 }
+    ensures ok { let names = names_in reading.now.names.now in
+        IfOk result (λ frame. HasReadAll limit (S.left source.old) (S.left source.new)
+        (λ bytes. asked_table names bytes reading.now.null_word.now
+        ≡ Ok (map rechunked frame))) }
+    ensures err { IfErr result (IsRefusedInput reading.now.null_word.now
+        (S.faults source.old) (S.faults source.new) limit
+        (S.left source.old) (S.left source.new)) }
+    ensures taken { result ≢ Err status.ReadFault
+        → HasTaken (limit + 65536) (S.left source.old) (S.left source.new) }
+    ensures kept { S.faults source.old ≤ S.faults source.new }
+{
+    let mut held = Vec::new(alloc);
+    let first = fill(source, &mut held, 0, limit, 1)?;
+    let Some(start) = start_of(alloc, &held, reading.names)? else {
+        fill_all(source, &mut held, first, limit)?;
+        let frame = table_of(
+            rt,
+            alloc,
+            &held,
+            reading.null_word,
+            reading.names,
+            reading.workers,
+        )?;
+        return Ok(frame);
+    };
+    let Start {
+        header,
+        mut columns,
+        lines,
+    } = start;
+    keep_from(&mut held, lines)?;
+    let enough = reading.block.min(FIRST_BLOCK);
+    let now = fill(source, &mut held, first.read, limit, enough)?;
+    let mut window = Window {
+        held,
+        next: Vec::new(alloc),
+        now,
+    };
+    'rounds: for _ in 0..u64::MAX {
+        if !push_block(
+            rt,
+            alloc,
+            source,
+            limit,
+            reading,
+            &header,
+            &mut columns,
+            &mut window,
+        )? {
+            let Window { held, next: _, now } = window;
+            let frame = finish_all(
+                rt, alloc, source, limit, reading, &header, columns, held, now,
+            )?;
+            return Ok(frame);
+        }
+    }
+    Err(Status::NoMemory)
+}

@@ -1,0 +1,5 @@
+pub mod Entry
+pub mod Pieces
+pub mod Table
+pub mod TextKey
+pub mod TextTable

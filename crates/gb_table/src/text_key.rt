@@ -1,0 +1,143 @@
+//! What tells texts apart at a look.
+
+ghost use Rattle.std.specs.Prelude.{◌≡◌, ◌↔◌, ◌≤◌, IsTrue, length};
+ghost use Rattle.std.specs.Hash.FoldHasher.{folded_multiply};
+ghost use Rattle.std.specs.Int.{w16, w32, w64};
+ghost use Rattle.gb_table.specs.TextKey.{end_words, key_of, outer_words, text_hash};
+
+use crate::slots::Hashed;
+use std::hash::{BuildHasher, BuildHasherDefault, FoldHasher};
+
+/// The length of a text, and a word for each of its ends: its first and its last bytes, which overlap where
+/// it is short. For a long text its hash stands in for both.
+#[derive(Clone, Copy, Debug, Drop)]
+pub(crate) struct TextKey {
+    len: usize,
+    front: u64,
+    back: u64,
+}
+
+impl Hashed for TextKey {
+    ghost use Rattle.gb_table.specs.TextKey.{hash_of};
+
+    ghost hash_of = { hash_of };
+
+    #[inline]
+    fn hash(&self) -> u64 {
+        // What stands in front of a long text's key is a hash.
+        if self.len > 16 {
+            return self.front;
+        }
+        let front = folded_multiply(self.front ^ 0x243f_6a88_85a3_08d3, 0x9e37_79b9_7f4a_7c15);
+        folded_multiply(front ^ self.back, 0x9e37_79b9_7f4a_7c15)
+    }
+}
+
+impl TextKey {
+    #[inline]
+    pub(crate) fn new(text: &str) -> TextKey
+        ensures { result ≡ key_of text.now }
+    {
+        let (front, back) = end_words(text);
+        TextKey {
+            len: text.len(),
+            front,
+            back,
+        }
+    }
+
+    /// Whether no other text has this key.
+    #[inline]
+    pub(crate) fn is_whole(&self) -> bool
+        ensures { IsTrue result ↔ (self.now.len ≤ 16) }
+    {
+        self.len <= 16
+    }
+
+    #[inline]
+    pub(crate) fn is(&self, other: TextKey) -> bool
+        ensures { IsTrue result ↔ (self.now ≡ other) }
+    {
+        self.len == other.len && self.front == other.front && self.back == other.back
+    }
+}
+
+// A word for each end of a text.
+#[inline]
+fn end_words(text: &str) -> (u64, u64)
+    ensures { result ≡ end_words text.now }
+{
+    let bytes = text.as_bytes();
+    if bytes.len() > 16 {
+        return (text_hash(text), 0);
+    }
+    if bytes.len() >= 8 {
+        return words_of_eight(bytes);
+    }
+    if bytes.len() >= 4 {
+        return words_of_four(bytes);
+    }
+    if bytes.len() >= 2 {
+        return words_of_two(bytes);
+    }
+    if bytes.len() == 0 {
+        return (0, 0);
+    }
+    (u64::from(bytes[0]), 0)
+}
+
+#[inline]
+fn words_of_eight(bytes: &[u8]) -> (u64, u64)
+    requires { 8 ≤ length bytes.now }
+    ensures { result ≡ outer_words w64 8 bytes.now }
+{
+    match (bytes.first_chunk::<8>(), bytes.last_chunk::<8>()) {
+        (Some(first), Some(last)) => (u64::from_le_bytes(*first), u64::from_le_bytes(*last)),
+        _ => unreachable!(),
+    }
+}
+
+#[inline]
+fn words_of_four(bytes: &[u8]) -> (u64, u64)
+    requires { 4 ≤ length bytes.now }
+    ensures { result ≡ outer_words w32 4 bytes.now }
+{
+    match (bytes.first_chunk::<4>(), bytes.last_chunk::<4>()) {
+        (Some(first), Some(last)) => (
+            u64::from(u32::from_le_bytes(*first)),
+            u64::from(u32::from_le_bytes(*last)),
+        ),
+        _ => unreachable!(),
+    }
+}
+
+#[inline]
+fn words_of_two(bytes: &[u8]) -> (u64, u64)
+    requires { 2 ≤ length bytes.now }
+    ensures { result ≡ outer_words w16 2 bytes.now }
+{
+    match (bytes.first_chunk::<2>(), bytes.last_chunk::<2>()) {
+        (Some(first), Some(last)) => (
+            u64::from(u16::from_le_bytes(*first)),
+            u64::from(u16::from_le_bytes(*last)),
+        ),
+        _ => unreachable!(),
+    }
+}
+
+// The library's hash of a text.
+fn text_hash(text: &str) -> u64
+    ensures { result ≡ text_hash text.now }
+{
+    let hasher: BuildHasherDefault<FoldHasher> = BuildHasherDefault::new();
+    hasher.hash_one(text)
+}
+
+// Both halves of the product.
+#[inline]
+fn folded_multiply(a: u64, b: u64) -> u64
+    ensures { result ≡ folded_multiply a b }
+{
+    let product = a as u128 * b as u128;
+    (product & 0xffff_ffff_ffff_ffff) as u64 ^ (product >> 64) as u64
+}
