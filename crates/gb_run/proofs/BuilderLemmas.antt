@@ -1,12 +1,15 @@
 -- A column while its cells are read: one cell more.
-use Rattle.std.proofs.Common.{◌≡◌, ℕ, ◌+◌, Bool, true, false, List, [], ◌∷◌, refl, sym, ◌∙◌, ap, Option, Some, None, option_map, replicate}
+use Rattle.std.proofs.Common.{◌≡◌, ℕ, ◌+◌, Bool, true, false, inl, inr, List, [], ◌∷◌, refl, sym, ◌∙◌, ap, Option, Some, None, option_map, replicate}
 use Rattle.std.specs.Prelude.{is_some}
+use Rattle.std.proofs.lemmas.Bool.{cases_Bool}
+use Rattle.std.proofs.lemmas.Str.{is_utf8-from_IsUtf8}
 use Rattle.std.proofs.lemmas.List.{length-map, replicate-append-replicate}
 use Rattle.std.specs.Bool.{OnFalse}
+use Rattle.std.specs.Str.{IsUtf8, bytes_eq}
 use Rattle.gb_defs.specs.Cell.{cell_slot}
 use Rattle.gb_defs.specs.Column.{ColumnValue, fresh_column, rechunked}
 use Rattle.gb_defs.specs.Table.{category_column, coded_slot, texts_in}
-use Rattle.gb_defs.specs.ColumnType.{CategoricalOrdering, Categorical, Flat, text}
+use Rattle.gb_defs.specs.ColumnType.{CategoricalOrdering, Categorical, ColumnType, Flat, text}
 use Rattle.gb_defs.specs.Slot.{Slot, Nil}
 use Rattle.gb_numbers.specs.Taken.{if_taken}
 use Rattle.gb_cols.specs.Column.{TakesCell, pushed}
@@ -49,6 +52,14 @@ module _ (ordering : CategoricalOrdering) where
   texts_taken null_word cell old new took typed takes =
       let reads : cell_slot null_word old.dtype cell ≡ cell_slot null_word (Flat (Categorical None ordering)) cell = ap (λ t. cell_slot null_word t cell) typed ∙ read_alike null_word cell in
       as_taken took new ∙ ap (option_map as_categories) takes ∙ as_pushed old (cell_slot null_word old.dtype cell) ∙ ap (option_map (pushed (as_categories old))) reads
+
+-- a text's cell reads
+pub text_read : (null_word cell : List ℕ) (t : ColumnType) → IsUtf8 cell → t ≡ text → true ≡ is_some (cell_slot null_word t cell)
+unfolding cell_slot
+text_read null_word cell t utf8 typed = elim (cases_Bool (bytes_eq cell null_word)) [
+  | inl same ↦ rw same refl
+  | inr other ↦ rw (other, typed, is_utf8-from_IsUtf8 cell utf8) refl
+]
 
 -- categories are read into one chunk
 pub categories_rechunked : (name : List ℕ) (ordering : CategoricalOrdering) (slots : List Slot) → rechunked (category_column name ordering slots) ≡ category_column name ordering slots

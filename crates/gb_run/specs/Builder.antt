@@ -43,15 +43,21 @@ pub record PassesDigits (b : Building) : Type 0 where
   pub unkept : b.keeps ≡ false
   pub words : IsOfWords b.column.dtype
 
+-- each text reads as a slot, and no slot is kept
+pub record PassesTexts (b : Building) : Type 0 where
+  pub unkept : b.keeps ≡ false
+  pub texts : b.column.dtype ≡ types.text
+
 -- the column so far: with its slots, or with no more than their number
 abbrev pub built : Cells → Option ℕ → Building
 built cells None = record { keeps = true; column = slots_in cells }
 built cells (Some count) = record { keeps = false; column = fresh_column (slots_in cells).name (slots_in cells).dtype (replicate count Nil) }
 
--- the cells can be taken, and where digits are passed over they may be
-pub record IsBuilder (cells : Cells) (checked : Option ℕ) (passes_digits : Bool) : Type 0 where
+-- the cells can be taken, and where digits or texts are passed over they may be
+pub record IsBuilder (cells : Cells) (checked : Option ℕ) (passes_digits passes_texts : Bool) : Type 0 where
   pub takes : TakesCells cells
   pub passes : passes_digits ≡ true → PassesDigits (built cells checked)
+  pub texts : passes_texts ≡ true → PassesTexts (built cells checked)
 
 -- the column in one chunk
 abbrev pub rechunked_of : Series → ColumnValue

@@ -3,11 +3,11 @@ use Rattle.std.specs.Prelude.{◌≡◌, ◌≢◌, ℕ, ◌+◌, ◌-◌, ◌<�
 use Rattle.std.specs.Bool.{OnTrue}
 use Rattle.std.specs.Str.{IsAscii}
 use Rattle.csv.specs.Reading.{strip_bom}
-use Rattle.csv.specs.Records.{fields_of}
+use Rattle.csv.specs.Records.{Row, fields_of}
 use Rattle.gb_base.specs.Device.{Rose}
 use Rattle.gb_defs.specs.Outcome.{Outcome}
 use Rattle.gb_defs.specs.Table as table
-use Rattle.gb_run.specs.Asked.{is_asked}
+use Rattle.gb_run.specs.Asked.{is_asked, names_in}
 use Rattle.gb_run.specs.Building.{Building, in_one_chunk}
 use Rattle.gb_run.specs.Part.{IsPart}
 use Rattle.gb_run.specs.Plain.{BeginsWith, IsBehind}
@@ -15,6 +15,7 @@ use Rattle.gb_run.specs.Run.{HasMoved, HasTaken, IsInputFault, IsReadToEnd, IsRe
 use Rattle.gb_run.specs.Status.{fault_value}
 use Rattle.gb_run.specs.Table.{columns_of_header}
 use Rattle.gb_run.specs.declared.streams.Progress.{Progress}
+use Rattle.gb_run.specs.declared.table.blocks.Reading.{Reading}
 use Rattle.gb_run.specs.declared.table.blocks.Start.{Start}
 use Rattle.gb_run.specs.declared.status.Status.{Status}
 use Rattle.gb_run.specs.declared.status.Status.TheVariants.{Table, ReadFault, TooLong, NoMemory}
@@ -116,3 +117,11 @@ pub record IsSomeFront (null_word held : List ℕ) (columns : List Building) : T
 abbrev pub rows_read : List Building → ℕ
 rows_read [] = 0
 rows_read (b ∷ bs) = length b.column.slots
+
+-- ---- the same, by what a table is read for
+
+abbrev pub IsFrontBy : Reading → Row → List ℕ → List ℕ → List Building → Type 0
+IsFrontBy r header bytes held columns = IsFront (names_in r.names.now) r.null_word.now (fields_of header) bytes held columns
+
+abbrev pub IsReadBy : Reading → Row → ℕ → Option (List ℕ) → Option (List ℕ) → ℕ → List ℕ → List Building → Type 0
+IsReadBy r header limit first left read held columns = IsStreamed (names_in r.names.now) r.null_word.now (fields_of header) limit first left read held columns

@@ -12,7 +12,7 @@ ghost use Rattle.gb_run.specs.Building.{in_one_chunk};
 ghost use Rattle.gb_run.specs.Part.{HasPart, IsHeaderRefused};
 ghost use Rattle.gb_run.specs.Refusal.{IsRefusedTable};
 ghost use Rattle.gb_run.specs.Run.{HasTaken};
-ghost use Rattle.gb_run.specs.Stream.{HasReadAll, IsFewFront, IsFilled, IsFront, IsRefusedInput, IsSomeStreamed, IsStarted, IsStreamed};
+ghost use Rattle.gb_run.specs.Stream.{HasReadAll, IsFewFront, IsFilled, IsFrontBy, IsReadBy, IsRefusedInput, IsSomeStreamed, IsStarted};
 ghost use Rattle.gb_run.specs.declared.status.Status.TheVariants as status;
 
 use crate::status::{Status, TableError};
@@ -173,25 +173,23 @@ fn push_block<R: Threads + Sync, S: Source>(
         window.old.held.items columns.old.items }
     requires ended { OnTrue window.old.now.ended (IfSome (S.left source.old) (λ rest. rest ≡ [])) }
     requires ascii { OnTrue window.old.now.ascii (IsAscii window.old.held.items) }
-    ensures ok { OnOk result ((first : Option (List ℕ)) → IsStreamed
-        (names_in reading.now.names.now) reading.now.null_word.now (fields_of header.now)
-        limit first (S.left source.old) window.old.now.read window.old.held.items columns.old.items
-        → IsStreamed
-        (names_in reading.now.names.now) reading.now.null_word.now (fields_of header.now)
-        limit first (S.left source.new) window.new.now.read
-        window.new.held.items columns.new.items) }
+    ensures ok { OnOk result ((first : Option (List ℕ)) →
+        IsReadBy reading.now header.now limit first (S.left source.old)
+        window.old.now.read window.old.held.items columns.old.items →
+        IsReadBy reading.now header.now limit first (S.left source.new)
+        window.new.now.read window.new.held.items columns.new.items) }
     ensures ended { OnOk result
         (OnTrue window.new.now.ended (IfSome (S.left source.new) (λ rest. rest ≡ []))) }
     ensures ascii { OnOk result (OnTrue window.new.now.ascii (IsAscii window.new.held.items)) }
-    ensures err { IfErr result (λ s. (first : Option (List ℕ)) → IsStreamed
-        (names_in reading.now.names.now) reading.now.null_word.now (fields_of header.now)
-        limit first (S.left source.old) window.old.now.read window.old.held.items columns.old.items
-        → IsRefusedInput reading.now.null_word.now (S.faults source.old) (S.faults source.new)
+    ensures err { IfErr result (λ s. (first : Option (List ℕ)) →
+        IsReadBy reading.now header.now limit first (S.left source.old)
+        window.old.now.read window.old.held.items columns.old.items →
+        IsRefusedInput reading.now.null_word.now (S.faults source.old) (S.faults source.new)
         limit first (S.left source.new) s) }
-    ensures taken { result ≢ Err status.ReadFault → (first : Option (List ℕ)) → IsStreamed
-        (names_in reading.now.names.now) reading.now.null_word.now (fields_of header.now)
-        limit first (S.left source.old) window.old.now.read window.old.held.items columns.old.items
-        → HasTaken (limit + 65536) first (S.left source.new) }
+    ensures taken { result ≢ Err status.ReadFault → (first : Option (List ℕ)) →
+        IsReadBy reading.now header.now limit first (S.left source.old)
+        window.old.now.read window.old.held.items columns.old.items →
+        HasTaken (limit + 65536) first (S.left source.new) }
     ensures kept { S.faults source.old ≤ S.faults source.new }
 {
     let Window { held, next, now } = window;
@@ -249,13 +247,11 @@ fn finish<R: Threads + Sync>(
         (fields_of header.now) held.items columns.items }
     requires ascii { OnTrue ascii (IsAscii held.items) }
     ensures ok { IfOk result (λ frame. (bytes : List ℕ) → length bytes ≤ 4294967295 →
-        IsFront (names_in reading.now.names.now) reading.now.null_word.now
-        (fields_of header.now) bytes held.items columns.items →
+        IsFrontBy reading.now header.now bytes held.items columns.items →
         asked_table (names_in reading.now.names.now) bytes reading.now.null_word.now
         ≡ Ok (map rechunked frame)) }
     ensures err { IfErr result (λ e. (bytes : List ℕ) → length bytes ≤ 4294967295 →
-        IsFront (names_in reading.now.names.now) reading.now.null_word.now
-        (fields_of header.now) bytes held.items columns.items →
+        IsFrontBy reading.now header.now bytes held.items columns.items →
         IsRefusedTable e (table bytes reading.now.null_word.now)) }
 {
     let lines = Lines {
@@ -296,20 +292,20 @@ fn finish_all<R: Threads + Sync, S: Source>(
         (fields_of header.now) limit (S.left source.old) now.read held.items columns.items }
     requires ended { OnTrue now.ended (IfSome (S.left source.old) (λ rest. rest ≡ [])) }
     requires ascii { OnTrue now.ascii (IsAscii held.items) }
-    ensures ok { IfOk result (λ frame. (first : Option (List ℕ)) → IsStreamed
-        (names_in reading.now.names.now) reading.now.null_word.now (fields_of header.now)
-        limit first (S.left source.old) now.read held.items columns.items →
+    ensures ok { IfOk result (λ frame. (first : Option (List ℕ)) →
+        IsReadBy reading.now header.now limit first (S.left source.old)
+        now.read held.items columns.items →
         HasReadAll limit first (S.left source.new)
         (λ bytes. asked_table (names_in reading.now.names.now) bytes reading.now.null_word.now
         ≡ Ok (map rechunked frame))) }
-    ensures err { IfErr result (λ s. (first : Option (List ℕ)) → IsStreamed
-        (names_in reading.now.names.now) reading.now.null_word.now (fields_of header.now)
-        limit first (S.left source.old) now.read held.items columns.items →
+    ensures err { IfErr result (λ s. (first : Option (List ℕ)) →
+        IsReadBy reading.now header.now limit first (S.left source.old)
+        now.read held.items columns.items →
         IsRefusedInput reading.now.null_word.now (S.faults source.old) (S.faults source.new)
         limit first (S.left source.new) s) }
-    ensures taken { result ≢ Err status.ReadFault → (first : Option (List ℕ)) → IsStreamed
-        (names_in reading.now.names.now) reading.now.null_word.now (fields_of header.now)
-        limit first (S.left source.old) now.read held.items columns.items →
+    ensures taken { result ≢ Err status.ReadFault → (first : Option (List ℕ)) →
+        IsReadBy reading.now header.now limit first (S.left source.old)
+        now.read held.items columns.items →
         HasTaken (limit + 65536) first (S.left source.new) }
     ensures kept { S.faults source.old ≤ S.faults source.new }
 {

@@ -7,7 +7,8 @@ ghost use Rattle.std.specs.Str.{IsUtf8};
 ghost use Rattle.gb_defs.specs.Table.{Head};
 ghost use Rattle.gb_base.specs.DataType.{type_of};
 ghost use Rattle.gb_base.specs.PlSmallStr.{name_of};
-ghost use Rattle.gb_run.specs.Builder.{IsNamed, IsOfWords, PassesDigits, rechunked_of};
+ghost use Rattle.gb_defs.specs.ColumnType.{text};
+ghost use Rattle.gb_run.specs.Builder.{IsNamed, IsOfWords, PassesDigits, PassesTexts, rechunked_of};
 ghost use Rattle.gb_run.specs.Building.{BuildsCell, IsRoomy, IsWhole, in_one_chunk, read_if_kept};
 ghost use Rattle.gb_run.specs.Part.{HasFew, emptied, joined_to};
 ghost use Rattle.gb_run.specs.Plain.{AreFewDigits};
@@ -145,6 +146,16 @@ fn is_of_words(dtype: &DataType) -> bool
     }
 }
 
+// Whether a type is that of texts.
+fn is_of_texts(dtype: &DataType) -> bool
+    ensures { OnTrue result (type_of dtype.now ≡ text) }
+{
+    match dtype {
+        DataType::String => true,
+        _ => false,
+    }
+}
+
 /// A column while its cells are read. Contracts see the slots that the cells read as, a category's as
 /// its texts, or nulls where they are not kept.
 #[derive(Drop)]
@@ -154,6 +165,8 @@ pub struct ColumnBuilder {
     checked: Option<usize>,
     // Whether cells of few digits need no check.
     passes_digits: bool,
+    // Whether texts need no check.
+    passes_texts: bool,
 }
 
 impl Model for ColumnBuilder {
@@ -166,7 +179,7 @@ impl Model for ColumnBuilder {
 
     ghost view = { λ b. built b.cells b.checked };
 
-    ghost invariant = { λ b. IsBuilder b.cells b.checked b.passes_digits };
+    ghost invariant = { λ b. IsBuilder b.cells b.checked b.passes_digits b.passes_texts };
 }
 
 impl ColumnBuilder {
@@ -178,18 +191,21 @@ impl ColumnBuilder {
             result ≡ built_of keeps head [] }
     {
         let passes_digits = is_of_words(&dtype);
+        let passes_texts = is_of_texts(&dtype);
         let cells = Cells::new(alloc, name, dtype);
         if keeps {
             ColumnBuilder {
                 cells,
                 checked: None,
                 passes_digits: false,
+                passes_texts: false,
             }
         } else {
             ColumnBuilder {
                 cells,
                 checked: Some(0),
                 passes_digits,
+                passes_texts,
             }
         }
     }
@@ -218,6 +234,28 @@ impl ColumnBuilder {
         requires passes { PassesDigits self.old }
         requires room { IsRoomy self.old }
         ensures { (null_word cell : List ℕ) → AreFewDigits cell →
+            BuildsCell null_word self.old self.new cell true }
+    {
+        match self.checked {
+            Some(count) => self.checked = Some(count + 1),
+            None => unreachable!(),
+        }
+    }
+
+    /// Whether texts need no check, since each of them reads and none is kept.
+    #[inline(always)]
+    pub fn passes_texts(&self) -> bool
+        ensures { OnTrue result (PassesTexts self.now) }
+    {
+        self.passes_texts
+    }
+
+    /// A text more, whichever it is.
+    #[inline(always)]
+    pub fn pass_text(&mut self)
+        requires passes { PassesTexts self.old }
+        requires room { IsRoomy self.old }
+        ensures { (null_word cell : List ℕ) → IsUtf8 cell →
             BuildsCell null_word self.old self.new cell true }
     {
         match self.checked {
@@ -263,6 +301,7 @@ impl ColumnBuilder {
             cells,
             checked,
             passes_digits: _,
+            passes_texts: _,
         } = other;
         match (self.checked, checked) {
             (Some(count), Some(more)) => {
@@ -284,6 +323,7 @@ impl ColumnBuilder {
             cells,
             checked,
             passes_digits: _,
+            passes_texts: _,
         } = self;
         match checked {
             Some(_) => Ok(None),

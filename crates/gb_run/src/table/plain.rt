@@ -46,7 +46,7 @@ pub fn plain_header(alloc: Global, text: &[u8]) -> Result<Option<(ByteRecord, &[
 
 // Puts the cell in front of a text at the end of a column, and gives the text behind it, and whether its
 // record ends there. None where it is not plain or does not read. Digits are not looked at twice where a
-// column passes them.
+// column passes them, nor are texts.
 #[inline(always)]
 fn push_front<'a>(
     column: &mut ColumnBuilder,
@@ -69,6 +69,10 @@ fn push_front<'a>(
     let Some((cell, rest, last)) = cell_of(text, room)? else {
         return Ok(None);
     };
+    if ascii && column.passes_texts() {
+        column.pass_text();
+        return Ok(Some((rest, last)));
+    }
     if !column.push_cell(cell, ascii, null_word)? {
         return Ok(None);
     }
