@@ -223,6 +223,27 @@ fn numbers_are<T: Threads + Sync>(
     has_groups(rt, pool, &Series::Int64(column), false, wanted)
 }
 
+// Whether numbers in chunks have their groups, with no null and with one in the last chunk.
+fn chunks_of_numbers_group<T: Threads + Sync>(
+    rt: &T,
+    alloc: Global,
+    pool: &Pool,
+) -> PolarsResult<bool> {
+    let mut column = numbers(alloc, &[Some(-3), Some(4)])?;
+    column.append(numbers(alloc, &[Some(4), Some(-3)])?)?;
+    if !has_groups(rt, pool, &column, true, &[(0, &[0, 3]), (1, &[1, 2])])? {
+        return Ok(false);
+    }
+    column.append(numbers(alloc, &[Some(4), None])?)?;
+    has_groups(
+        rt,
+        pool,
+        &column,
+        true,
+        &[(0, &[0, 3]), (1, &[1, 2, 4]), (5, &[5])],
+    )
+}
+
 // Columns of each type.
 fn group_columns<T: Abort + Threads + Sync>(
     rt: &T,
@@ -277,6 +298,7 @@ fn rows_with_one_key_are_a_group(rt: HostRuntime) -> Result<(), Fail> {
     for pool in &pools {
         group_in_partitions(&rt, alloc, pool)?;
         group_columns(&rt, alloc, pool)?;
+        assert!(rt; chunks_of_numbers_group(&rt, alloc, pool)?);
         assert!(rt; many_rows_are_two(&rt, alloc, pool)?);
     }
     Ok(())

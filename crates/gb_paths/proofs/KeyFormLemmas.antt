@@ -1,5 +1,5 @@
 -- Keys in a form of their own stand for the slots of a column.
-use Rattle.std.proofs.Common.{◌≡◌, inl, inr, ℕ, ◌<◌, true, false, List, length, map, All, Option, Some, refl, sym, ◌∙◌, ap, subst}
+use Rattle.std.proofs.Common.{◌≡◌, inl, inr, ℕ, ℤ, pos, ◌<◌, true, false, List, length, map, All, Option, None, Some, MatchOption, refl, sym, ◌∙◌, ap, subst}
 use Rattle.std.specs.Bool.{Decides}
 use Rattle.std.specs.Borrow.{Bor}
 use Rattle.std.specs.Global.{Global}
@@ -7,9 +7,10 @@ use Rattle.std.specs.Int.{Width, w8, w16, w32, w64, w128}
 use Rattle.std.specs.Prelude.{Vec}
 use Rattle.std.proofs.lemmas.Bool.Decides.{same_from_decides}
 use Rattle.std.proofs.lemmas.List.{get_or-map, length-map}
+use Rattle.std.proofs.lemmas.Simd.{map-map}
 use Rattle.gb_defs.specs.Column.{ColumnValue, categories_of}
 use Rattle.gb_defs.specs.ColumnType.{ColumnType, FlatType, Flat, Unsigned}
-use Rattle.gb_defs.specs.Hash.{hash_of, hash_width, seed_mix}
+use Rattle.gb_defs.specs.Hash.{hash_number, hash_of, hash_width, seed_mix}
 use Rattle.gb_defs.specs.Path.{Codes, Numbers, ByteLists, flat_kind, kind_of}
 use Rattle.gb_defs.specs.Rows.{StandsFor, rows_of_slots}
 use Rattle.gb_defs.specs.Slot.{Slot, Nil, Num, Bytes, Items, slot_at, slot_eq}
@@ -17,8 +18,12 @@ use Rattle.gb_defs.proofs.SlotLemmas.{Decides-slot_eq}
 use Rattle.gb_logical.proofs.CategoryLemmas.{has_texts}
 use Rattle.gb_values.specs.Keys.{AreWide, AreWords, IsToldByWide, IsToldByWord, bytes_slot, key_slot, number_from, wide_slot, with_number, word_slot}
 use Rattle.gb_numbers.specs.Native.{IsWhole, is_wide, unwidened, unworded}
-use Rattle.gb_paths.specs.Keys.{StandFor}
-use Rattle.gb_paths.specs.declared.into_groups.Keys.TheVariants.{Words, Wide}
+use Rattle.gb_cols.specs.Null.{AreNulls}
+use Rattle.gb_hash.specs.Keys.{key_slots}
+use Rattle.gb_paths.specs.Keys.{HasNoValues, StandFor}
+use Rattle.gb_paths.specs.PlainWords.{ArePlain}
+use Rattle.gb_paths.specs.declared.into_groups.Keys.{Keys}
+use Rattle.gb_paths.specs.declared.into_groups.Keys.TheVariants.{Plain, Words, PlainCodes, Wide}
 use Rattle.gb_paths.specs.declared.into_groups.Keys.TheVariants as keys
 
 -- slots in a form that tells them
@@ -77,6 +82,12 @@ wide_stand t slots words seed mix stand =
 pub same_stand : (slots keys : List Slot) (width : Width) (seed : ℕ) (mix : ℕ → ℕ) → keys ≡ slots → StandsFor (rows_of_slots width seed mix slots) (rows_of_slots width seed mix keys)
 same_stand slots keys width seed mix same = rw same (record { many = refl; agree = λ i j low high. refl; hashed = λ i lt. refl })
 
+pub plain_stand : (t : FlatType) (slots : List Slot) (words : List ℕ) (width : Width) (seed : ℕ) (mix : ℕ → ℕ) → is_wide width ≡ false → ArePlain t slots words →
+    StandsFor (rows_of_slots width seed mix slots) (rows_of_slots w64 seed mix (key_slots (λ n. pos n) words))
+plain_stand t slots words width seed mix narrow stand =
+    subst (λ (keys : List Slot). StandsFor (rows_of_slots width seed mix slots) (rows_of_slots w64 seed mix keys)) (map-map key_slot (λ word. Some word) words)
+    (words_stand t slots (map (λ word. Some word) words) width seed mix narrow stand)
+
 -- ---- the types of whole numbers
 
 pub whole_width : (width : Width) (t : FlatType) → IsWhole width t → hash_width (Flat t) ≡ width
@@ -118,9 +129,24 @@ codes_stand_for column codes texts words typed same stand =
       kind = code_kind column.dtype texts typed;
     }
 
+pub plain_codes_stand_for : (column codes : ColumnValue) (texts : List (List ℕ)) (words : Vec ℕ Global) → categories_of column.dtype ≡ Some texts → column.slots ≡ codes.slots →
+    ArePlain (Unsigned w32) codes.slots words.items → StandFor column (PlainCodes words)
+plain_codes_stand_for column codes texts words typed same stand =
+    let are = subst (λ slots. ArePlain (Unsigned w32) slots words.items) (sym same) stand in
+    record {
+      rows = λ seed. rw (code_width column.dtype texts typed) (plain_stand (Unsigned w32) column.slots words.items w64 seed seed_mix refl are);
+      kind = code_kind column.dtype texts typed;
+    }
+
 -- ---- keys stand for a column of a flat type
 
 module _ (t : FlatType) (column : ColumnValue) (typed : column.dtype ≡ Flat t) where
+  pub plain_stand_for : (words : Vec ℕ Global) → is_wide (hash_width (Flat t)) ≡ false → flat_kind t ≡ Numbers → ArePlain t column.slots words.items → StandFor column (Plain words)
+  plain_stand_for words narrow kind stand = record {
+    rows = λ seed. rw typed (plain_stand t column.slots words.items (hash_width (Flat t)) seed seed_mix narrow stand);
+    kind = ap kind_of typed ∙ kind;
+  }
+
   pub words_stand_for : (words : Vec (Option ℕ) Global) → is_wide (hash_width (Flat t)) ≡ false → flat_kind t ≡ Numbers → AreWords t column.slots words.items → StandFor column (Words words)
   words_stand_for words narrow kind stand = record {
     rows = λ seed. rw typed (words_stand t column.slots words.items (hash_width (Flat t)) seed seed_mix narrow stand);
@@ -138,3 +164,41 @@ module _ (t : FlatType) (column : ColumnValue) (typed : column.dtype ≡ Flat t)
     rows = λ seed. rw (typed, width) (same_stand column.slots (map bytes_slot bytes.items) w64 seed seed_mix same);
     kind = ap kind_of typed ∙ kind;
   }
+
+-- ---- a column of numbers that mean something else has the keys of its numbers
+
+module _ (seed : ℕ) (mix : ℕ → ℕ) where
+  narrow_hash : (width : Width) → is_wide width ≡ false → (n : ℤ) → hash_number width seed mix n ≡ hash_number w64 seed mix n
+  narrow_hash w8 narrow n = refl
+  narrow_hash w16 narrow n = refl
+  narrow_hash w32 narrow n = refl
+  narrow_hash w64 narrow n = refl
+  narrow_hash w128 narrow n = cc
+
+  number_hash : (own other : Width) → is_wide own ≡ is_wide other → (n : ℤ) → hash_number own seed mix n ≡ hash_number other seed mix n
+  number_hash w8 other same n = sym (narrow_hash other (sym same) n)
+  number_hash w16 other same n = sym (narrow_hash other (sym same) n)
+  number_hash w32 other same n = sym (narrow_hash other (sym same) n)
+  number_hash w64 other same n = sym (narrow_hash other (sym same) n)
+  number_hash w128 other same n = rw (wide_width other (sym same)) refl
+
+  hash_alike : (own other : Width) → is_wide own ≡ is_wide other → (s : Slot) → hash_of own seed mix s ≡ hash_of other seed mix s
+  hash_alike own other same Nil = refl
+  hash_alike own other same (Num n) = number_hash own other same n
+  hash_alike own other same (Bytes bytes) = refl
+  hash_alike own other same (Items parts) = refl
+
+module _ (column stored : ColumnValue) (slots : column.slots ≡ stored.slots) (width : is_wide (hash_width column.dtype) ≡ is_wide (hash_width stored.dtype)) (kind : kind_of column.dtype ≡ kind_of stored.dtype) where
+  typed_stand_for : (keys : Keys) → StandFor stored keys → StandFor column keys
+  typed_stand_for keys stand = record {
+    rows = λ seed. rw slots (record {
+      many = (stand.rows seed).many;
+      agree = (stand.rows seed).agree;
+      hashed = λ i lt. hash_alike seed seed_mix (hash_width column.dtype) (hash_width stored.dtype) width (slot_at stored.slots i) ∙ (stand.rows seed).hashed i lt;
+    });
+    kind = kind ∙ stand.kind;
+  }
+
+  pub typed_keys : (keys : Option Keys) → MatchOption keys (HasNoValues stored) (StandFor stored) → MatchOption keys (HasNoValues column) (StandFor column)
+  typed_keys None none = record { kind = kind ∙ none.kind; nulls = subst (λ (ss : List Slot). AreNulls ss) (sym slots) none.nulls }
+  typed_keys (Some keys) stand = typed_stand_for keys stand

@@ -5,5 +5,6 @@ pub mod KeyLemmas
 pub mod MemberLemmas
 pub mod NumberLemmas
 pub mod PartitionLemmas
+pub mod PlainWordLemmas
 pub mod RunLemmas
 pub mod TupleLemmas

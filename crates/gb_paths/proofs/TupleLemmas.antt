@@ -14,7 +14,7 @@ use Rattle.gb_base.specs.declared.pool.Pool.{Pool}
 use Rattle.gb_paths.specs.Keys.{StandFor, are_bytes, are_codes, rows_of_keys}
 use Rattle.gb_paths.specs.Tuples.{column_path, column_rows, path_value, tuples_of}
 use Rattle.gb_paths.specs.declared.into_groups.Keys.{Keys}
-use Rattle.gb_paths.specs.declared.into_groups.Keys.TheVariants.{Words, Codes, Wide, Texts, Bytes}
+use Rattle.gb_paths.specs.declared.into_groups.Keys.TheVariants.{Plain, Words, PlainCodes, Codes, Wide, Texts, Bytes}
 use Rattle.gb_paths.specs.declared.into_groups.Path as declared
 use Rattle.gb_paths.specs.declared.into_groups.Path.TheVariants as way
 
@@ -37,7 +37,9 @@ stood_groups way.Threaded own rows stand codes n sorted = sym (path_groups_alike
 -- the path of keys is that of the column for which they stand, but for codes of no rows
 stood_path : (column : ColumnValue) (keys : Keys) (multithreaded : Bool) (pool : Pool) → StandFor column keys → (are_codes keys && (length column.slots == 0)) ≡ false →
     hashed_path (are_bytes keys) (length column.slots) multithreaded (workers_of pool) (threshold_of pool) ≡ column_path column multithreaded pool
+stood_path column (Plain words) multithreaded pool stand some = rw stand.kind refl
 stood_path column (Words words) multithreaded pool stand some = rw stand.kind refl
+stood_path column (PlainCodes codes) multithreaded pool stand some = rw (stand.kind, some) refl
 stood_path column (Codes codes) multithreaded pool stand some = rw (stand.kind, some) refl
 stood_path column (Wide words) multithreaded pool stand some = rw stand.kind refl
 stood_path column (Texts texts) multithreaded pool stand some = rw stand.kind refl
@@ -64,7 +66,11 @@ none_perfect rows codes false none = rw (none, none_coded rows.slot (range_with_
 -- they have no groups, which are in order
 pub no_tuples : (column : ColumnValue) (keys : Keys) (multithreaded sorted : Bool) (pool : Pool) → StandFor column keys → (are_codes keys && (length column.slots == 0)) ≡ true →
     idx_groups [] true ≡ tuples_of column multithreaded sorted pool
+no_tuples column (Plain words) multithreaded sorted pool stand none = cc
 no_tuples column (Words words) multithreaded sorted pool stand none = cc
+no_tuples column (PlainCodes codes) multithreaded sorted pool stand none =
+    let pairs = none_perfect (column_rows column pool) (code_count column.dtype) sorted (eqb-true (length column.slots) 0 none) in
+    rw (stand.kind, none, pairs) refl
 no_tuples column (Codes codes) multithreaded sorted pool stand none =
     let pairs = none_perfect (column_rows column pool) (code_count column.dtype) sorted (eqb-true (length column.slots) 0 none) in
     rw (stand.kind, none, pairs) refl

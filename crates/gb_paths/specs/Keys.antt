@@ -1,5 +1,5 @@
 -- Keys in one of their forms, and what they say of a column.
-use Rattle.std.specs.Prelude.{◌≡◌, ℕ, Bool, true, false, map, replicate}
+use Rattle.std.specs.Prelude.{◌≡◌, ℕ, pos, Bool, true, false, map, replicate}
 use Rattle.std.specs.Int.{w64, w128}
 use Rattle.gb_defs.specs.Column.{ColumnValue}
 use Rattle.gb_defs.specs.Hash.{hash_width, seed_mix}
@@ -9,30 +9,38 @@ use Rattle.gb_defs.specs.Slot as slot
 use Rattle.gb_defs.specs.Rows.{Rows, StandsFor, rows_of_slots}
 use Rattle.gb_values.specs.Keys.{bytes_slot, key_slot}
 use Rattle.gb_cols.specs.Null.{AreNulls}
+use Rattle.gb_hash.specs.Keys.{key_slots}
 use Rattle.gb_paths.specs.declared.into_groups.Keys.{Keys}
-use Rattle.gb_paths.specs.declared.into_groups.Keys.TheVariants.{Words, Codes, Wide, Texts, Bytes}
+use Rattle.gb_paths.specs.declared.into_groups.Keys.TheVariants.{Plain, Words, PlainCodes, Codes, Wide, Texts, Bytes}
 
 -- the rows of keys, with their hashes under a seed
 abbrev pub rows_of_keys : ℕ → Keys → Rows
+rows_of_keys seed (Plain words) = rows_of_slots w64 seed seed_mix (key_slots (λ n. pos n) words.items)
 rows_of_keys seed (Words words) = rows_of_slots w64 seed seed_mix (map key_slot words.items)
+rows_of_keys seed (PlainCodes codes) = rows_of_slots w64 seed seed_mix (key_slots (λ n. pos n) codes.items)
 rows_of_keys seed (Codes codes) = rows_of_slots w64 seed seed_mix (map key_slot codes.items)
 rows_of_keys seed (Wide words) = rows_of_slots w128 seed seed_mix (map key_slot words.items)
 rows_of_keys seed (Texts texts) = rows_of_slots w64 seed seed_mix (map (λ t. slot.Bytes t) texts)
 rows_of_keys seed (Bytes bytes) = rows_of_slots w64 seed seed_mix (map bytes_slot bytes.items)
 
 abbrev pub are_bytes : Keys → Bool
+are_bytes (Plain words) = false
 are_bytes (Words words) = false
+are_bytes (PlainCodes codes) = false
 are_bytes (Codes codes) = false
 are_bytes (Wide words) = false
 are_bytes (Texts texts) = true
 are_bytes (Bytes bytes) = true
 
 abbrev pub are_codes : Keys → Bool
+are_codes (PlainCodes codes) = true
 are_codes (Codes codes) = true
 are_codes _ = false
 
 abbrev pub key_kind : Keys → KeyKind
+key_kind (Plain words) = Numbers
 key_kind (Words words) = Numbers
+key_kind (PlainCodes codes) = path.Codes
 key_kind (Codes codes) = path.Codes
 key_kind (Wide words) = Numbers
 key_kind (Texts texts) = ByteLists

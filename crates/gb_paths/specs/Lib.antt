@@ -1,4 +1,5 @@
 pub mod Keys
 pub mod Numbers
 pub mod Partitions
+pub mod PlainWords
 pub mod Tuples

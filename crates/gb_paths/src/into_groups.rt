@@ -14,6 +14,7 @@ ghost use Rattle.gb_paths.specs.Keys.{HasNoValues, StandFor, are_bytes, are_code
 ghost use Rattle.gb_paths.specs.Tuples.{path_value, tuples_of};
 
 use crate::group_by::group_uncounted;
+use crate::plain_words::plain_words;
 use crate::threaded::group_by_threaded_iter;
 use gb_base::device::Gate;
 use gb_base::error::PolarsResult;
@@ -29,6 +30,7 @@ use gb_groups::groups_type::GroupsType;
 use gb_hash::dirty_hash::SeedMixer;
 use gb_hash::key_rows::KeyRows;
 use gb_hash::list_rows::{ListRows, TextChunks, TextRows};
+use gb_hash::slice_rows::SliceRows;
 use gb_logical::categorical::CategoricalChunked;
 use gb_logical::logical::{Logical, LogicalKind};
 use gb_numbers::numeric::{Native, PolarsNumericType};
@@ -97,9 +99,13 @@ pub fn group_tuples_gated<T: Threads + Sync, G: Gate + Sync>(
 /// A key for each row, in a form that no later loop looks a chunk up for. A null has none.
 #[derive(Drop)]
 pub enum Keys<'a> {
-    /// Numbers of at most 64 bits, with their sign extended.
+    /// Numbers of at most 64 bits with their sign extended, none of them null.
+    Plain(Vec<u64>),
+    /// Such numbers, any of which may be null.
     Words(Vec<Option<u64>>),
-    /// Codes of categories.
+    /// Codes of categories, none of them null.
+    PlainCodes(Vec<u64>),
+    /// Such codes, any of which may be null.
     Codes(Vec<Option<u64>>),
     /// Numbers of 128 bits.
     Wide(Vec<Option<u128>>),
@@ -114,7 +120,9 @@ impl<'a> Keys<'a> {
         ensures { result ≡ are_bytes self.now }
     {
         match self {
+            Keys::Plain(_) => false,
             Keys::Words(_) => false,
+            Keys::PlainCodes(_) => false,
             Keys::Codes(_) => false,
             Keys::Wide(_) => false,
             Keys::Texts(_) => true,
@@ -126,7 +134,9 @@ impl<'a> Keys<'a> {
         ensures { result ≡ are_codes self.now }
     {
         match self {
+            Keys::Plain(_) => false,
             Keys::Words(_) => false,
+            Keys::PlainCodes(_) => true,
             Keys::Codes(_) => true,
             Keys::Wide(_) => false,
             Keys::Texts(_) => false,
@@ -137,7 +147,8 @@ impl<'a> Keys<'a> {
 
 /// Values that the rows of a column have keys by.
 pub trait KeyValues: Values {
-    /// The keys of a column of such values, by one pass over its chunks.
+    /// The keys of a column of such values, by one pass over its chunks. What stands before the first null
+    /// may be read twice.
     fn keys_of(column: &ChunkedArray<Self>) -> PolarsResult<Keys<'_>>
         ensures ok { IfOk result (λ keys. StandFor column.now keys) }
         ensures err { IfErr result IsNoMemory };
@@ -148,9 +159,11 @@ impl<T: PolarsNumericType> KeyValues for NumberValues<T> {
         // The call tells the column's type.
         let _ = column.allocator();
         if T::Native::is_wide() {
-            Ok(Keys::Wide(column.wide_words()?))
-        } else {
-            Ok(Keys::Words(column.words()?))
+            return Ok(Keys::Wide(column.wide_words()?));
+        }
+        match plain_words(column)? {
+            Some(words) => Ok(Keys::Plain(words)),
+            None => Ok(Keys::Words(column.words()?)),
         }
     }
 }
@@ -209,7 +222,7 @@ impl KeyValues for ByteValues<BinaryOffset> {
 
 /// A column whose rows have keys.
 pub trait KeyColumn: SeriesTrait {
-    /// The keys, by one pass over the chunks: none where the column's type has no values.
+    /// The keys, as `KeyValues` gives them: none where the column's type has no values.
     fn keys(&self) -> PolarsResult<Option<Keys<'_>>>
         ensures ok { let column = Self.value self.now in
             IfOk result (λ keys. MatchOption keys (HasNoValues column) (StandFor column)) }
@@ -226,11 +239,7 @@ impl<K: LogicalKind> KeyColumn for Logical<K> {
     fn keys(&self) -> PolarsResult<Option<Keys<'_>>> {
         // The call tells the column's type.
         let _ = self.kind();
-        if <K::Physical as PolarsNumericType>::Native::is_wide() {
-            Ok(Some(Keys::Wide(self.wide_words()?)))
-        } else {
-            Ok(Some(Keys::Words(self.words()?)))
-        }
+        self.physical().keys()
     }
 }
 
@@ -245,7 +254,11 @@ impl KeyColumn for CategoricalChunked {
     fn keys(&self) -> PolarsResult<Option<Keys<'_>>> {
         // The call tells the column's type.
         let _ = self.get_rev_map();
-        Ok(Some(Keys::Codes(self.physical().words()?)))
+        let physical = self.physical();
+        match plain_words(physical)? {
+            Some(codes) => Ok(Some(Keys::PlainCodes(codes))),
+            None => Ok(Some(Keys::Codes(physical.words()?))),
+        }
     }
 }
 
@@ -350,8 +363,16 @@ fn group_keys<T: Threads + Sync, G: Gate + Sync>(
 {
     let mixer = SeedMixer::new(pool.seed());
     match keys {
+        Keys::Plain(words) => {
+            let rows = SliceRows::new(words.as_slice(), mixer);
+            group_rows(rt, alloc, &rows, path, sorted, pool, gate)
+        }
         Keys::Words(words) => {
             let rows = ListRows::new(words.as_slice(), mixer);
+            group_rows(rt, alloc, &rows, path, sorted, pool, gate)
+        }
+        Keys::PlainCodes(codes) => {
+            let rows = SliceRows::new(codes.as_slice(), mixer);
             group_rows(rt, alloc, &rows, path, sorted, pool, gate)
         }
         Keys::Codes(codes) => {

@@ -5,6 +5,7 @@
 
 pub mod group_by;
 pub mod into_groups;
+mod plain_words;
 mod row_groups;
 mod row_hashes;
 pub mod threaded;
