@@ -162,17 +162,17 @@ fn group_in_partitions<T: Abort + Threads + Sync>(
     Ok(())
 }
 
-// Whether rows enough for each worker to hash some have two groups.
+// Whether rows enough for two workers, to hash and to put into partitions, have two groups.
 fn many_rows_are_two<T: Threads + Sync>(rt: &T, alloc: Global, pool: &Pool) -> PolarsResult<bool> {
-    let mut keys = vec![in alloc; 5i64; 10_000]?;
-    keys[9_999] = 6;
+    let mut keys = vec![in alloc; 5i64; 20_000]?;
+    keys[19_999] = 6;
     let mixer = SeedMixer::new(pool.seed());
     let groups = group_by_threaded_slice(rt, alloc, &keys, mixer, 3, true, pool, &FreeGate)?;
     let mut rows = 0usize;
     for group in groups.iter() {
         rows = rows.wrapping_add(group.len());
     }
-    Ok(groups.len() == 2 && rows == 10_000)
+    Ok(groups.len() == 2 && rows == 20_000)
 }
 
 // Whether a column has these groups: of all rows by partitions and sorted, or by one table.

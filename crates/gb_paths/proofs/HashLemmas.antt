@@ -1,16 +1,10 @@
 -- The hashes of rows that follow each other, and lists of rows that have them.
-use Rattle.std.proofs.Common.{◌≡◌, ℕ, ◌+◌, ◌-◌, ◌<◌, ◌≤◌, List, length, get_or, map, take, drop, ◌∙◌, ap, sym, arith}
+use Rattle.std.proofs.Common.{◌≡◌, ℕ, ◌+◌, ◌-◌, ◌<◌, ◌≤◌, List, length, get_or, map, ◌∙◌, ap, sym, arith}
 use Rattle.std.specs.List.{range_with_len}
-use Rattle.std.proofs.lemmas.List.{drop-map, get_or-map, length-map}
-use Rattle.std.proofs.lemmas.List.Elements.{All-drop, All-take}
+use Rattle.std.proofs.lemmas.List.{get_or-map, length-map}
 use Rattle.std.proofs.lemmas.List.FromFn.{get_or-range_with_len, length-range_with_len}
-use Rattle.smallvec.specs.SmallVec.{SmallVec}
 use Rattle.gb_defs.specs.Classes.{rows_below}
-use Rattle.gb_defs.specs.Groups.{AreMembers}
 use Rattle.gb_defs.specs.Rows.{Rows, AreHashes}
-use Rattle.gb_groups.specs.Groups.{lists_of}
-use Rattle.gb_paths.specs.Partitions.{AreListed}
-use Rattle.gb_paths.proofs.MemberLemmas.{take_lists}
 
 pub hashes_long : (hash : ℕ → ℕ) (start n : ℕ) (hashes : List ℕ) → hashes ≡ map hash (range_with_len start n) → length hashes ≡ n
 hashes_long hash start n hashes e = ap length e ∙ length-map (range_with_len start n) hash ∙ length-range_with_len start n
@@ -33,20 +27,3 @@ hash_of_row rows start hashes row h low high =
     let back : start + (row - start) ≡ row = omega (arith, low) in
     ap (λ hs. get_or hs (row - start) 0) h.are ∙ get_or-map rows.hash (range_with_len start count) (row - start) 0 0 inside
     ∙ ap rows.hash (get_or-range_with_len start count (row - start) 0 lt ∙ back)
-
--- ---- the front and the back of some lists
-
-module _ {rows : Rows} {hashes : List ℕ} (lists : List (SmallVec ℕ)) (listed : AreListed rows hashes (lists_of lists)) (n : ℕ) where
-  pub listed_front : (front : List (SmallVec ℕ)) → front ≡ take n lists → AreListed rows hashes (lists_of front)
-  listed_front front is = record {
-    few = listed.few;
-    members = rw (is, take_lists n lists) (All-take (AreMembers (length hashes)) n (lists_of lists) listed.members);
-    hashed = listed.hashed;
-  }
-
-  pub listed_back : (back : List (SmallVec ℕ)) → back ≡ drop n lists → AreListed rows hashes (lists_of back)
-  listed_back back is = record {
-    few = listed.few;
-    members = rw (is, ← drop-map (λ (list : SmallVec ℕ). list.items) n lists) (All-drop (AreMembers (length hashes)) n (lists_of lists) listed.members);
-    hashed = listed.hashed;
-  }

@@ -1,5 +1,6 @@
 pub mod FormLemmas
 pub mod HashLemmas
+pub mod JoinLemmas
 pub mod KeyFormLemmas
 pub mod KeyLemmas
 pub mod MemberLemmas

@@ -152,10 +152,3 @@ rows_within n count hash hashes hashed within = recursion_from_All (λ i. partit
     let place : k < length hashes = omega (arith, lt, ap length hashed, length-map (rows_below count) hash) in
     let at : get_or hashes k 0 ≡ hash (get_or (rows_below count) k d) = ap (λ hs. get_or hs k 0) hashed ∙ get_or-map hash (rows_below count) k d 0 lt in
     rw (← at) (within k 0 place))
-
--- ---- the front and the back of some lists
-
-pub take_lists : (n : ℕ) (lists : List (SmallVec ℕ)) → lists_of (take n lists) ≡ take n (lists_of lists)
-take_lists zero lists = refl
-take_lists (suc n) [] = refl
-take_lists (suc n) (list ∷ lists) = ap (λ ls. list.items ∷ ls) (take_lists n lists)

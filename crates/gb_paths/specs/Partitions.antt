@@ -1,13 +1,13 @@
 -- Rows and hashes by partitions.
-use Rattle.std.specs.Prelude.{ℕ, ◌+◌, ◌<◌, ◌≤◌, ◌^◌, List, All, Vec, filter, length, map}
+use Rattle.std.specs.Prelude.{◌≡◌, ℕ, ◌+◌, ◌<◌, ◌≤◌, ◌^◌, List, [], All, Vec, drop, filter, flat_map, get_or, length, map, take}
 use Rattle.std.specs.List.{range_with_len}
 use Rattle.smallvec.specs.SmallVec.{SmallVec}
 use Rattle.gb_defs.specs.Groups.{AreMembers, HasRowNumbers}
 use Rattle.gb_defs.specs.Hash.{partition_of}
 use Rattle.gb_defs.specs.Partitions.{in_partition}
 use Rattle.gb_defs.specs.Rows.{Rows, AreHashes}
-use Rattle.gb_groups.specs.Groups.{pairs_of}
-use Rattle.gb_paths.specs.Numbers.{groups_among}
+use Rattle.gb_groups.specs.Groups.{lists_of, pairs_of}
+use Rattle.gb_paths.specs.Numbers.{groups_among, lists_by}
 
 -- so many rows from `start` on are among the rows, whose numbers fit 64 bits
 pub record HasRows (rows : Rows) (start n : ℕ) : Type 0 where
@@ -26,16 +26,34 @@ partitions_by n hashes = map (λ h. partition_of h n) hashes
 abbrev pub rows_by_partition : (ℕ → ℕ) → ℕ → List ℕ → List (List ℕ)
 rows_by_partition hash n rows = map (λ p. filter (in_partition hash n p) rows) (range_with_len 0 n)
 
--- lists of some of the rows that have these hashes, from row 0 on
-pub record AreListed (rows : Rows) (hashes : List ℕ) (lists : List (List ℕ)) : Type 0 where
+-- a list for each of n partitions
+abbrev pub Lists : {A : Type 0} → ℕ → Vec (SmallVec ℕ) A → Type 0
+Lists n share = length share.items ≡ n
+
+-- the lists of the rows of a share by the n partitions of their hashes, which are among those of all rows
+pub record AreDealt (n : ℕ) (hashes : List ℕ) (share : ℕ × ℕ) (lists : List (SmallVec ℕ)) : Type 0 where
+  pub listed : lists_of lists ≡ lists_by (range_with_len share.0 share.1) (partitions_by n (take share.1 (drop share.0 hashes))) n
+  pub within : AreWithin n (take share.1 (drop share.0 hashes))
+
+-- the rows of a partition: those that each share lists of it, share after share
+abbrev pub list_joined : {A : Type 0} → List (Vec (SmallVec ℕ) A) → ℕ → List ℕ
+list_joined shares partition = flat_map (λ share. get_or (lists_of share.items) partition []) shares
+
+-- the same of each of n partitions
+abbrev pub lists_joined : {A : Type 0} → ℕ → List (Vec (SmallVec ℕ) A) → List (List ℕ)
+lists_joined n shares = map (list_joined shares) (range_with_len 0 n)
+
+-- lists of some of the rows that have these hashes, from row 0 on, n from each share
+pub record AreListed {A : Type 0} (rows : Rows) (hashes : List ℕ) (n : ℕ) (shares : List (Vec (SmallVec ℕ) A)) : Type 0 where
   pub few : HasRowNumbers rows.count
-  pub members : All (AreMembers (length hashes)) lists
+  pub each : All (Lists n) shares
+  pub members : All (AreMembers (length hashes)) (lists_joined n shares)
   pub hashed : AreHashes rows 0 hashes
 
 -- the groups of each part
 abbrev pub groups_of_parts : {A : Type 0} → List (Vec (ℕ × SmallVec ℕ) A) → List (List (ℕ × List ℕ))
 groups_of_parts parts = map (λ part. pairs_of part.items) parts
 
--- the groups of the rows of each list
-abbrev pub groups_of_lists : Rows → List (SmallVec ℕ) → List (List (ℕ × List ℕ))
-groups_of_lists rows lists = map (λ list. groups_among rows list.items) lists
+-- the groups of the rows of each partition of a range
+abbrev pub groups_of_partitions : {A : Type 0} → Rows → List (Vec (SmallVec ℕ) A) → ℕ × ℕ → List (List (ℕ × List ℕ))
+groups_of_partitions rows shares range = map (λ partition. groups_among rows (list_joined shares partition)) (range_with_len range.0 range.1)

@@ -8,4 +8,5 @@ pub mod into_groups;
 mod plain_words;
 mod row_groups;
 mod row_hashes;
+mod row_partitions;
 pub mod threaded;

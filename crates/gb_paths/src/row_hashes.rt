@@ -13,7 +13,7 @@ use std::thread::{self, Threads};
 
 // Below so many rows no thread is started. It is a guess at the rows that are hashed in the time that a
 // thread takes to start: about 15 microseconds, at 2 nanoseconds a row.
-const FEW_ROWS: usize = 8192;
+pub(crate) const FEW_ROWS: usize = 8192;
 
 /// The hash of each row.
 pub fn hash_rows<R: KeyRows>(alloc: Global, rows: &R) -> Result<Vec<u64>, AllocError>

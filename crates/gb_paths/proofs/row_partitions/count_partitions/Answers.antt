@@ -3,7 +3,7 @@ use Rattle.std.proofs.lemmas.List.{take_all}
 use Rattle.gb_paths.specs.Numbers.{counts_by}
 use Rattle.gb_paths.specs.Partitions.{partitions_by}
 use Rattle.gb_paths.proofs.MemberLemmas.{partition_counted, partitions_counted, within_more}
-use Rattle.gb_paths.proofs.threaded.count_partitions.Goals as goal
+use Rattle.gb_paths.proofs.row_partitions.count_partitions.Goals as goal
 
 pub loop-hash-preserved : goal.loop-hash-preserved
 loop-hash-preserved c =

@@ -1,7 +1,7 @@
 use Rattle.std.proofs.Common.{◌≡◌, ℕ, get_or, take}
 use Rattle.gb_paths.specs.Numbers.{count_of}
 use Rattle.gb_paths.specs.Partitions.{AreWithin, partitions_by}
-use Rattle.gb_paths.proofs.threaded.count_partitions.Given as goal
+use Rattle.gb_paths.proofs.row_partitions.count_partitions.Given as goal
 
 abbrev pub invariant-loop-hash : goal.invariant-loop-hash
 invariant-loop-hash l = record {
