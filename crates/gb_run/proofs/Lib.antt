@@ -18,6 +18,7 @@ pub mod PartsLemmas
 pub mod PlainLemmas
 pub mod PlainTableLemmas
 pub mod PushLemmas
+pub mod QueueLemmas
 pub mod ReadingLemmas
 pub mod RecordLemmas
 pub mod ReportLemmas

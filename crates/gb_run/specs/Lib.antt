@@ -5,8 +5,10 @@ pub mod FaultText
 pub mod Folds
 pub mod Grouping
 pub mod Head
+pub mod Job
 pub mod Part
 pub mod Plain
+pub mod Queue
 pub mod Refusal
 pub mod Request
 pub mod Run

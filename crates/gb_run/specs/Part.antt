@@ -55,6 +55,18 @@ pub record IsPart (names : List (List ℕ)) (null_word : List ℕ) (header : Lis
   pub slots_are : (row : ℕ) → rows_from null_word row heads rows ≡ Ok slots
   pub columns_are : columns ≡ built_from (is_asked names) 0 heads slots
 
+-- the columns are those of some header, with no slots
+pub record IsSomeStart (columns : List Building) : Type 0 where
+  pub names : List (List ℕ)
+  pub header : List (List ℕ)
+  pub start : columns_of_header (is_asked names) header ≡ Ok columns
+
+-- for each header that gives the columns, others have the records from a text to what stands behind them
+abbrev pub HasLines : List Building → List ℕ → List ℕ → List ℕ → List Building → Type 0
+HasLines columns null_word text rest all =
+    (names header : List (List ℕ)) → columns_of_header (is_asked names) header ≡ Ok columns
+    → IsPart names null_word header text rest (map in_one_chunk all)
+
 -- the columns of the lines from one place to another, whatever their chunks
 abbrev pub HasPart : Lines → ℕ → ℕ → List Building → Type 0
 HasPart l from to columns =

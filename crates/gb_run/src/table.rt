@@ -5,8 +5,10 @@ pub mod blocks;
 mod builder;
 mod cell;
 mod header;
+mod jobs;
 mod lines;
 pub mod plain;
+mod queue;
 
 ghost use Rattle.std.specs.Prelude.{◌≡◌, ◌≤◌, ◌++◌, [], List, ℕ, true, length, map, All, Ok, Err, OnOk, OnErr, IfOk, IfErr};
 ghost use Rattle.std.specs.List.{cons_option, filter_map};

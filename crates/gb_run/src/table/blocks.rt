@@ -21,16 +21,18 @@ use crate::table::builder::ColumnBuilder;
 use crate::table::header::columns_of_header;
 use crate::table::lines::{Lines, append_columns, count_parts};
 use crate::table::plain::{is_line_end, plain_header, without_mark};
+use crate::table::queue::read_queued;
 use crate::table::{csv_behind, frame_of, table_of};
 use csv::ByteRecord;
 use gb_base::device::Source;
 use gb_series::frame::DataFrame;
 use std::alloc::{AllocError, Global};
 use std::mem::swap;
-use std::thread::{Threads, join_mut};
+use std::thread::Threads;
 
-// How many bytes the first block has at most. Each later one has at most twice as many as the one before.
-const FIRST_BLOCK: usize = 1_048_576;
+/// How many bytes the first block has at most. With one worker each later one has at most twice as many as the
+/// one before.
+pub const FIRST_BLOCK: usize = 1_048_576;
 
 /// What a table is read for, and how.
 #[derive(Clone, Copy)]
@@ -78,8 +80,8 @@ fn start_of(alloc: Global, held: &[u8], names: &[&str]) -> Result<Option<Start>,
     }
 }
 
-// Leaves of the bytes those from a place on.
-fn keep_from(held: &mut Vec<u8>, place: usize) -> Result<(), AllocError>
+/// Leaves of the bytes those from a place on.
+pub fn keep_from(held: &mut Vec<u8>, place: usize) -> Result<(), AllocError>
     requires { place ≤ length held.old.items }
     ensures { OnOk result (held.new.items ≡ drop place held.old.items) }
 {
@@ -89,8 +91,8 @@ fn keep_from(held: &mut Vec<u8>, place: usize) -> Result<(), AllocError>
     Ok(())
 }
 
-// Where the last line begins, if one ends before it.
-fn last_line(text: &[u8]) -> Option<usize>
+/// Where the last line begins, if one ends before it.
+pub fn last_line(text: &[u8]) -> Option<usize>
     ensures { IfSome result (λ place. place < length text.now) }
 {
     for place in (1..text.len()).rev() {
@@ -109,14 +111,12 @@ struct Window {
     now: Progress,
 }
 
-// The columns of the lines up to a place, read in so many parts, while the next bytes of the source are
-// moved behind those of another text. With one part no thread is started.
-fn read_ahead<R: Threads + Sync, S: Source>(
+// The columns of the lines up to a place, and then the next bytes of the source behind those of another text.
+fn read_and_fill<R: Threads + Sync, S: Source>(
     rt: &R,
     alloc: Global,
     lines: &Lines<'_>,
     place: usize,
-    parts: usize,
     source: &mut S,
     next: &mut Vec<u8>,
     read: u64,
@@ -126,7 +126,6 @@ fn read_ahead<R: Threads + Sync, S: Source>(
     Result<Option<Vec<ColumnBuilder>>, TableError>,
     Result<Progress, Status>,
 )
-    requires parts { 1 ≤ parts }
     requires place { place ≤ length lines.now.text.now }
     requires few { length lines.now.text.now ≤ 4294967295 }
     requires ascii { lines.now.ascii ≡ true → IsAscii lines.now.text.now }
@@ -138,20 +137,8 @@ fn read_ahead<R: Threads + Sync, S: Source>(
     ensures filled { IsFilled limit read next.old.items next.new.items (S.left source.old)
         (S.left source.new) (S.faults source.old) (S.faults source.new) result.1 }
 {
-    if parts == 1 {
-        let found = lines.read_to(rt, alloc, place, 1);
-        return (found, fill(source, next, read, limit, enough));
-    }
-    join_mut(
-        rt,
-        &mut || -> Result<Option<Vec<ColumnBuilder>>, TableError>
-            requires { (1 ≤ parts)
-                × (place ≤ length lines.now.text.now)
-                × (length lines.now.text.now ≤ 4294967295)
-                × (lines.now.ascii ≡ true → IsAscii lines.now.text.now) }
-        { lines.read_to(rt, alloc, place, parts) },
-        &mut || fill(source, next, read, limit, enough),
-    )
+    let found = lines.read_to(rt, alloc, place, 1);
+    (found, fill(source, next, read, limit, enough))
 }
 
 // Moves the lines of a block, but for the last, to the ends of the columns, and the next bytes of the source
@@ -208,10 +195,9 @@ fn push_block<R: Threads + Sync, S: Source>(
         text: held.as_slice(),
         ascii: now.ascii,
     };
-    let parts = count_parts(place, reading.workers);
     let enough = reading.block.min(held.len().saturating_mul(2));
-    let (found, filled) = read_ahead(
-        rt, alloc, &lines, place, parts, source, next, now.read, limit, enough,
+    let (found, filled) = read_and_fill(
+        rt, alloc, &lines, place, source, next, now.read, limit, enough,
     );
     *now = filled?;
     // The header is not at fault, so that an error is want of memory.
@@ -275,8 +261,8 @@ fn finish<R: Threads + Sync>(
     }
 }
 
-// The frame of the columns and of all that the source has left, behind what is held.
-fn finish_all<R: Threads + Sync, S: Source>(
+/// The frame of the columns and of all that the source has left, behind what is held.
+pub fn finish_all<R: Threads + Sync, S: Source>(
     rt: &R,
     alloc: Global,
     source: &mut S,
@@ -359,6 +345,12 @@ pub fn read_table<R: Threads + Sync, S: Source>(
     keep_from(&mut held, lines)?;
     let enough = reading.block.min(FIRST_BLOCK);
     let now = fill(source, &mut held, first.read, limit, enough)?;
+    if reading.workers > 1 {
+        let queued = read_queued(
+            rt, alloc, source, limit, reading, &header, columns, held, now,
+        )?;
+        return Ok(queued);
+    }
     let mut window = Window {
         held,
         next: Vec::new(alloc),

@@ -1,11 +1,11 @@
 //! The lines of a plain table behind its header, read in parts, each by a worker.
 
-ghost use Rattle.std.specs.Prelude.{◌≡◌, ◌+◌, ◌<◌, ◌≤◌, [], ◌∷◌, true, length, map, All, IfErr, IfOk, IfSome, OnOk};
+ghost use Rattle.std.specs.Prelude.{◌≡◌, ◌+◌, ◌<◌, ◌≤◌, [], ◌∷◌, drop, true, length, map, All, IfErr, IfOk, IfSome, OnOk};
 ghost use Rattle.std.specs.Bool.{OnTrue};
 ghost use Rattle.std.specs.Str.{IsAscii};
 ghost use Rattle.csv.specs.Records.{fields_of};
 ghost use Rattle.gb_run.specs.Building.{in_one_chunk};
-ghost use Rattle.gb_run.specs.Part.{AreCuts, HasFew, HasPart, IsHeaderRefused, IsWith, ReadsPart, emptied, joined, last_cut};
+ghost use Rattle.gb_run.specs.Part.{AreCuts, HasFew, HasLines, HasPart, IsHeaderRefused, IsSomeStart, IsWith, ReadsPart, emptied, joined, last_cut};
 
 use crate::status::TableError;
 use crate::table::builder::ColumnBuilder;
@@ -46,28 +46,10 @@ impl Lines<'_> {
             HasPart self.now from to columns.items)) }
         ensures err { IfErr result (IsHeaderRefused self.now) }
     {
-        let mut columns = columns_of_header(alloc, self.header, self.names)?;
-        let behind = self.text.len() - to;
-        let mut room = Vec::new(alloc);
-        let mut left = &self.text[from..];
-        for _ in 0..u64::MAX {
-            if left.len() == behind {
-                return Ok(Some(columns));
-            }
-            if left.len() < behind {
-                return Ok(None);
-            }
-            if is_line_end(left[0]) {
-                left = &left[1..];
-                continue;
-            }
-            let line = push_line(&mut columns, left, self.ascii, self.null_word, &mut room)?;
-            let Some(rest) = line else {
-                return Ok(None);
-            };
-            left = rest;
-        }
-        Err(TableError::NoMemory)
+        let columns = columns_of_header(alloc, self.header, self.names)?;
+        let (text, ascii) = (self.text, self.ascii);
+        let found = read_lines(alloc, columns, text, from, to, ascii, self.null_word)?;
+        Ok(found)
     }
 
     // The columns of the parts between cuts, each part read in a thread of its own where one can be
@@ -128,6 +110,47 @@ impl Lines<'_> {
         // A cut may stand between quotes.
         self.read(alloc, 0, to)
     }
+}
+
+/// The columns with the records between two places of a text as their slots. None where these are no whole
+/// lines, which are plain and read.
+pub fn read_lines(
+    alloc: Global,
+    mut columns: Vec<ColumnBuilder>,
+    text: &[u8],
+    from: usize,
+    to: usize,
+    ascii: bool,
+    null_word: &str,
+) -> Result<Option<Vec<ColumnBuilder>>, AllocError>
+    requires from { from ≤ length text.now }
+    requires to { to ≤ length text.now }
+    requires few { length text.now ≤ 4294967295 }
+    requires ascii { ascii ≡ true → IsAscii text.now }
+    requires start { IsSomeStart columns.items }
+    ensures { IfOk result (λ found. IfSome found (λ all. HasLines columns.items null_word.now
+        (drop from text.now) (drop to text.now) all.items)) }
+{
+    let behind = text.len() - to;
+    let mut room = Vec::new(alloc);
+    let mut left = &text[from..];
+    for _ in 0..u64::MAX {
+        if left.len() == behind {
+            return Ok(Some(columns));
+        }
+        if left.len() < behind {
+            return Ok(None);
+        }
+        if is_line_end(left[0]) {
+            left = &left[1..];
+            continue;
+        }
+        let Some(rest) = push_line(&mut columns, left, ascii, null_word, &mut room)? else {
+            return Ok(None);
+        };
+        left = rest;
+    }
+    Err(AllocError)
 }
 
 /// In how many parts a text of so many bytes is read by so many workers: two for each of several, so that a
