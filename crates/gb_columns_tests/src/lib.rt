@@ -9,13 +9,9 @@ mod categorical;
 #[cfg(test)]
 mod columns;
 #[cfg(test)]
-mod compare;
-#[cfg(test)]
 mod logical;
 #[cfg(test)]
 mod orders;
-#[cfg(test)]
-mod series;
 #[cfg(test)]
 mod slices;
 #[cfg(test)]

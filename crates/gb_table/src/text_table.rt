@@ -109,7 +109,8 @@ impl TextTable {
         ensures number { IfOk result (λ number.
             position (bytes_eq text.now) self.new ≡ Some number) }
         ensures texts { OnOk result (self.new
-            ≡ (if list_any (bytes_eq text.now) self.old then self.old else self.old ++ text.now ∷ [])) }
+            ≡ (if list_any (bytes_eq text.now) self.old
+                then self.old else self.old ++ text.now ∷ [])) }
         ensures unchanged { OnErr result (self.new ≡ self.old) }
     {
         make_slots(&mut self.slots, &self.keys)?;
