@@ -110,7 +110,7 @@ impl TextTable {
             position (bytes_eq text.now) self.new ≡ Some number) }
         ensures texts { OnOk result (self.new
             ≡ (if list_any (bytes_eq text.now) self.old
-                then self.old else self.old ++ text.now ∷ [])) }
+            then self.old else self.old ++ text.now ∷ [])) }
         ensures unchanged { OnErr result (self.new ≡ self.old) }
     {
         make_slots(&mut self.slots, &self.keys)?;
