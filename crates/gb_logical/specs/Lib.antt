@@ -1,3 +1,4 @@
 pub mod Categorical
 pub mod CategoricalBuilder
 pub mod Logical
+pub mod TextCoder
