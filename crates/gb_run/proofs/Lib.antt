@@ -9,6 +9,7 @@ pub mod DeviceLemmas
 pub mod DigitsLemmas
 pub mod ExtendLemmas
 pub mod FoldingLemmas
+pub mod GroupPartLemmas
 pub mod GroupingLemmas
 pub mod HeadLemmas
 pub mod HeaderLemmas

@@ -385,3 +385,12 @@ refused_later null_word faults before after limit first last Done h k e = e
 refused_later null_word faults before after limit first last Usage h k e = e
 refused_later null_word faults before after limit first last (Group f) h k e = e
 refused_later null_word faults before after limit first last WriteFault h k e = e
+
+-- the header and what stands behind it, once two pieces of the source were read
+pub streamed_start : (names : List (List ℕ)) (null_word : List ℕ) (limit : ℕ) (first left after : Option (List ℕ)) (read now : ℕ) (start : Start) (none held kept more : List ℕ) → none ≡ [] →
+    HasFilled 0 read none held first left → read ≤ limit → IsStarted names held start → kept ≡ drop start.lines held → HasFilled read now kept more left after → now ≤ limit →
+    IsStreamed names null_word (fields_of start.header) limit first after now more start.columns.items
+streamed_start names null_word limit first left after read now start none held kept more empty f few started kept_is g fewer =
+    let told = told_held limit first first 0 none (rw empty (told_none limit first)) read held left f few in
+    let here = streamed_first names null_word (fields_of start.header) limit first left read kept start.columns.items start held told started refl refl kept_is in
+    streamed_more names null_word (fields_of start.header) limit first left read kept start.columns.items here now more after g fewer

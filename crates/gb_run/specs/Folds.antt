@@ -1,22 +1,22 @@
 -- Folds over lists of rows.
-use Rattle.std.specs.Prelude.{ℕ, ℤ, List, length, map, All, Option, Some, None, if◌then◌else◌}
-use Rattle.gb_defs.specs.Slot.{Slot, Num}
+use Rattle.std.specs.Prelude.{◌≡◌, ◌++◌, ℕ, List, length, map, All, Option, Some, None, if◌then◌else◌}
+use Rattle.std.specs.List.{flat_map}
+use Rattle.gb_defs.specs.Slot.{Slot}
 use Rattle.gb_defs.specs.ColumnType.{ColumnType}
-use Rattle.gb_defs.specs.Column.{ColumnValue, fresh_column}
+use Rattle.gb_defs.specs.Answer.{aggregated}
+use Rattle.gb_defs.specs.Column.{ColumnValue, Content, content, fresh_column}
 use Rattle.gb_defs.specs.Fold.{Method, Sum, fold_of, number_slot, sum_type}
 use Rattle.gb_defs.specs.Groups.{AreMembers, Grouping, HasRowNumbers, lists_in}
 use Rattle.gb_defs.specs.Fault.{Fault, has_sum, unfit_operation, unfit_or}
 use Rattle.gb_base.specs.PlSmallStr.{name_of}
 use Rattle.gb_run.specs.declared.words.Agg.{Agg}
-use Rattle.gb_run.specs.Request.{method_of}
+use Rattle.gb_series.specs.Series.{value_of}
+use Rattle.gb_series.specs.declared.series.Series.{Series}
+use Rattle.gb_run.specs.Request.{agg_of, method_of}
 
 -- the fold of a column over a list of rows
 abbrev pub fold_in : Method → ColumnValue → List ℕ → Slot
 fold_in method c rows = fold_of method c.dtype c.slots rows
-
--- numbers as slots, none of them null
-abbrev pub number_slots : {N : Type 0} → (N → ℤ) → List N → List Slot
-number_slots number numbers = map (λ n. Num (number n)) numbers
 
 -- how many rows there are
 abbrev pub rows_fold : List ℕ → Slot
@@ -42,3 +42,15 @@ agg_unfit agg c = unfit_in (name_of agg.column) (method_of agg.method) c
 pub record AreGroupsOf (c : ColumnValue) (groups : Grouping) : Type 0 where
   pub rows : All (AreMembers (length c.slots)) (lists_in groups)
   pub few : HasRowNumbers (length groups.pairs)
+
+-- the column has the aggregate of the other for each group
+abbrev pub IsAggregateOf : Agg → ColumnValue → Grouping → Series → Type 0
+IsAggregateOf agg c groups s = content (value_of s) ≡ aggregated (agg_of agg) (Some c) (lists_in groups)
+
+-- the slots of columns, one behind another
+abbrev pub slots_of_parts : List Series → List Slot
+slots_of_parts parts = flat_map (λ s. (value_of s).slots) parts
+
+-- a column with the slots of others behind its own
+abbrev pub joined_content : ColumnValue → List Series → Content
+joined_content c parts = record { name = c.name; dtype = c.dtype; slots = c.slots ++ slots_of_parts parts }

@@ -3,6 +3,7 @@ pub mod Builder
 pub mod Building
 pub mod FaultText
 pub mod Folds
+pub mod GroupPart
 pub mod Grouping
 pub mod Head
 pub mod Job

@@ -7,7 +7,8 @@ use Rattle.csv.specs.Records.{Row, fields_of}
 use Rattle.gb_base.specs.Device.{Rose}
 use Rattle.gb_defs.specs.Outcome.{Outcome}
 use Rattle.gb_defs.specs.Table as table
-use Rattle.gb_run.specs.Asked.{is_asked, names_in}
+use Rattle.gb_defs.specs.Column.{ColumnValue, rechunked}
+use Rattle.gb_run.specs.Asked.{asked_table, is_asked, names_in}
 use Rattle.gb_run.specs.Building.{Building, in_one_chunk}
 use Rattle.gb_run.specs.Part.{IsPart}
 use Rattle.gb_run.specs.Plain.{BeginsWith, IsBehind}
@@ -125,3 +126,13 @@ IsFrontBy r header bytes held columns = IsFront (names_in r.names.now) r.null_wo
 
 abbrev pub IsReadBy : Reading → Row → ℕ → Option (List ℕ) → Option (List ℕ) → ℕ → List ℕ → List Building → Type 0
 IsReadBy r header limit first left read held columns = IsStreamed (names_in r.names.now) r.null_word.now (fields_of header) limit first left read held columns
+
+-- what comes of reading on to the end of the source, where what was read is a front of the table
+pub record ReadsOn (r : Reading) (header : Row) (limit : ℕ) (left left_after : Option (List ℕ)) (read : ℕ) (held : List ℕ) (columns : List Building) (faults faults_after : ℕ) (result : Result (List ColumnValue) Status) : Type 0 where
+  pub ok : IfOk result (λ frame. (first : Option (List ℕ)) → IsReadBy r header limit first left read held columns
+      → HasReadAll limit first left_after (λ bytes. asked_table (names_in r.names.now) bytes r.null_word.now ≡ Ok (map rechunked frame)))
+  pub err : IfErr result (λ s. (first : Option (List ℕ)) → IsReadBy r header limit first left read held columns
+      → IsRefusedInput r.null_word.now faults faults_after limit first left_after s)
+  pub taken : result ≢ Err ReadFault → (first : Option (List ℕ)) → IsReadBy r header limit first left read held columns
+      → HasTaken (limit + 65536) first left_after
+  pub kept : faults ≤ faults_after

@@ -11,11 +11,13 @@ ghost use Rattle.gb_base.specs.PolarsError.{Explains};
 ghost use Rattle.gb_base.specs.PlSmallStr.{name_of, IsNoMemory};
 ghost use Rattle.gb_values.specs.Array.{native_slot};
 ghost use Rattle.gb_groups.specs.GroupsIndicator.{pair_of};
-ghost use Rattle.gb_groups.specs.GroupsType.{groups_of};
 ghost use Rattle.gb_series.specs.Series.{value_of};
+ghost use Rattle.gb_run.specs.GroupPart.{part_of};
 ghost use Rattle.gb_run.specs.Folds.{AreGroupsOf, agg_unfit, fold_column, fold_in, sums_of_column, unfit_in};
 ghost use Rattle.gb_run.specs.Request.{agg_of, method_of};
 
+pub mod by_workers;
+pub mod group_part;
 mod group_sums;
 pub mod number_fold;
 
@@ -25,27 +27,29 @@ use gb_base::small_str::PlSmallStr;
 use gb_cols::chunked::ChunkedArray;
 use gb_cols::primitive::UInt32Chunked;
 use gb_cols::series_trait::SeriesTrait;
-use gb_groups::groups_type::{GroupsIndicator, GroupsType};
+use gb_groups::groups_type::GroupsIndicator;
 use gb_numbers::numeric::PolarsNumericType;
 use gb_series::map_sums;
 use gb_series::series::Series;
 use gb_values::primitive::NumberValues;
+use group_part::GroupPart;
 use group_sums::GroupSums;
 use number_fold::{NumberFold, RowCount, RowList, RowRun, ValidCount};
 use std::alloc::Global;
 
-/// The aggregate over the rows of each group, unless the type of the column has none.
+/// The aggregate over the rows of each group, unless the type of the column has none. A row's slot is read
+/// fast where the column has one chunk.
 pub fn aggregate(
     alloc: Global,
     column: &Series,
     agg: &Agg,
-    groups: &GroupsType,
+    groups: &GroupPart<'_>,
 ) -> PolarsResult<Series>
-    requires groups { AreGroupsOf (value_of column.now) (groups_of groups.now) }
+    requires groups { AreGroupsOf (value_of column.now) (part_of groups.now) }
     requires short { HasRowNumbers (length (value_of column.now).slots) }
     ensures fits { OnOk result (agg_unfit agg.now (value_of column.now) ≡ None) }
     ensures ok { IfOk result (λ s. content (value_of s) ≡ aggregated (agg_of agg.now)
-        (Some (value_of column.now)) (lists_in (groups_of groups.now))) }
+        (Some (value_of column.now)) (lists_in (part_of groups.now))) }
     ensures err { IfErr result (λ e. Explains e (agg_unfit agg.now (value_of column.now))) }
 {
     let name = name_of_answer(alloc, agg)?;
@@ -80,10 +84,10 @@ fn name_of_answer(alloc: Global, agg: &Agg) -> PolarsResult<PlSmallStr>
 fn series_sums(
     name: PlSmallStr,
     column: &Series,
-    groups: &GroupsType,
+    groups: &GroupPart<'_>,
 ) -> PolarsResult<Option<Series>>
-    requires { AreGroupsOf (value_of column.now) (groups_of groups.now) }
-    ensures ok { let lists = lists_in (groups_of groups.now) in
+    requires { AreGroupsOf (value_of column.now) (part_of groups.now) }
+    ensures ok { let lists = lists_in (part_of groups.now) in
         IfOk result (λ sums. option_map value_of sums
         ≡ sums_of_column (name_of name) (value_of column.now) lists) }
     ensures err { IfErr result IsNoMemory }
@@ -97,13 +101,13 @@ fn column_sums(
     name: PlSmallStr,
     column: &Series,
     asked: &PlSmallStr,
-    groups: &GroupsType,
+    groups: &GroupPart<'_>,
 ) -> PolarsResult<Series>
-    requires groups { AreGroupsOf (value_of column.now) (groups_of groups.now) }
+    requires groups { AreGroupsOf (value_of column.now) (part_of groups.now) }
     ensures fits { OnOk result (has_sum (value_of column.now).dtype ≡ true) }
     ensures ok { IfOk result (λ s. value_of s
         ≡ fold_column (name_of name) (sum_type (value_of column.now).dtype)
-        (fold_in Sum (value_of column.now)) (lists_in (groups_of groups.now))) }
+        (fold_in Sum (value_of column.now)) (lists_in (part_of groups.now))) }
     ensures err { IfErr result (λ e.
         Explains e (unfit_in (name_of asked.now) Sum (value_of column.now))) }
 {
@@ -129,12 +133,12 @@ fn column_counts(
     name: PlSmallStr,
     column: &Series,
     include_nulls: bool,
-    groups: &GroupsType,
+    groups: &GroupPart<'_>,
 ) -> PolarsResult<UInt32Chunked>
-    requires groups { AreGroupsOf (value_of column.now) (groups_of groups.now) }
+    requires groups { AreGroupsOf (value_of column.now) (part_of groups.now) }
     requires short { HasRowNumbers (length (value_of column.now).slots) }
     ensures ok { IfOk result (λ c. c ≡ fold_column (name_of name) uint32
-        (fold_in (Count include_nulls) (value_of column.now)) (lists_in (groups_of groups.now))) }
+        (fold_in (Count include_nulls) (value_of column.now)) (lists_in (part_of groups.now))) }
     ensures err { IfErr result IsNoMemory }
 {
     if include_nulls {
@@ -149,18 +153,18 @@ pub(crate) fn fold_groups<F: NumberFold>(
     alloc: Global,
     name: PlSmallStr,
     fold: &F,
-    groups: &GroupsType,
+    groups: &GroupPart<'_>,
 ) -> PolarsResult<ChunkedArray<NumberValues<F::Out>>>
-    requires rows { All (AreMembers (F.height fold.now)) (lists_in (groups_of groups.now)) }
-    requires few { HasRowNumbers (length (groups_of groups.now).pairs) }
+    requires rows { All (AreMembers (F.height fold.now)) (lists_in (part_of groups.now)) }
+    requires few { HasRowNumbers (length (part_of groups.now).pairs) }
     ensures ok { IfOk result (λ c. c ≡ fold_column (name_of name) (Flat F.Out.Native.flat)
-        (F.fold fold.now) (lists_in (groups_of groups.now))) }
+        (F.fold fold.now) (lists_in (part_of groups.now))) }
     ensures err { IfErr result IsNoMemory }
 {
     let mut folded: ChunkedArray<NumberValues<F::Out>> = ChunkedArray::new(alloc, name);
     folded.reserve(groups.len())?;
-    for group in groups.iter() {
-        folded.push(fold_group(fold, &group))?;
+    for place in 0..groups.len() {
+        folded.push(fold_group(fold, &groups.get(place)))?;
     }
     Ok(folded)
 }

@@ -16,7 +16,7 @@ ghost use Rattle.gb_run.specs.Grouping.{aggregates_over, answer_parts, firsts_in
 ghost use Rattle.gb_run.specs.Request.{agg_of, aggs_of};
 ghost use Rattle.gb_run.specs.Text.{contents_of};
 
-use crate::folds::aggregate;
+use crate::folds::by_workers::aggregate_all;
 use crate::words::Agg;
 use gb_base::device::Gate;
 use gb_base::error::{PolarsError, PolarsResult};
@@ -69,7 +69,7 @@ fn group_by_key<R: Threads + Sync, G: Gate + Sync>(
     check_height(frame.height())?;
     check_columns(frame, aggs)?;
     let groups = key_groups(rt, key, pool, gate)?;
-    let columns = answer_columns(alloc, frame, key, aggs, groups)?;
+    let columns = answer_columns(rt, alloc, frame, key, aggs, groups, pool)?;
     DataFrame::new(columns)
 }
 
@@ -115,12 +115,14 @@ fn check_columns(frame: &DataFrame, aggs: &[Agg]) -> PolarsResult<()>
 }
 
 // The columns of the answer. The first rows are moved out of the groups, so the keys come last.
-fn answer_columns(
+fn answer_columns<R: Threads + Sync>(
+    rt: &R,
     alloc: Global,
     frame: &DataFrame,
     key: &Series,
     aggs: &[Agg],
     groups: GroupsType,
+    pool: &Pool,
 ) -> PolarsResult<Vec<Series>>
     requires frame { IsFrame frame.now }
     requires short { HasRowNumbers (frame_height frame.now) }
@@ -135,18 +137,20 @@ fn answer_columns(
     ensures fits { OnOk result (unfit_fault frame.now (aggs_of aggs.now) ≡ None) }
     ensures err { IfErr result (λ e. Explains e (unfit_fault frame.now (aggs_of aggs.now))) }
 {
-    let mut columns = aggregates(alloc, frame, aggs, &groups)?;
+    let mut columns = aggregates(rt, alloc, frame, aggs, &groups, pool)?;
     let firsts = groups.take_group_firsts()?;
     columns.insert(0, key.take(&firsts)?)?;
     Ok(columns)
 }
 
 // The aggregates over the rows of each group, with room for one column more.
-fn aggregates(
+fn aggregates<R: Threads + Sync>(
+    rt: &R,
     alloc: Global,
     frame: &DataFrame,
     aggs: &[Agg],
     groups: &GroupsType,
+    pool: &Pool,
 ) -> PolarsResult<Vec<Series>>
     requires frame { IsFrame frame.now }
     requires short { HasRowNumbers (frame_height frame.now) }
@@ -160,17 +164,19 @@ fn aggregates(
 {
     let mut columns = Vec::with_capacity(alloc, aggs.len() + 1)?;
     for agg in aggs {
-        columns.push(found_aggregate(alloc, frame, agg, groups)?)?;
+        columns.push(found_aggregate(rt, alloc, frame, agg, groups, pool)?)?;
     }
     Ok(columns)
 }
 
 // The aggregate of a column that the frame has.
-fn found_aggregate(
+fn found_aggregate<R: Threads + Sync>(
+    rt: &R,
     alloc: Global,
     frame: &DataFrame,
     agg: &Agg,
     groups: &GroupsType,
+    pool: &Pool,
 ) -> PolarsResult<Series>
     requires frame { IsFrame frame.now }
     requires short { HasRowNumbers (frame_height frame.now) }
@@ -183,5 +189,5 @@ fn found_aggregate(
     ensures err { IfErr result (λ e. Explains e (unfit_cause frame.now agg.now)) }
 {
     let column = frame.column(agg.column.as_str())?;
-    aggregate(alloc, column, agg, groups)
+    aggregate_all(rt, alloc, column, agg, groups, pool)
 }

@@ -9,7 +9,7 @@ ghost use Rattle.gb_defs.specs.Groups.{AreMembers, HasRowNumbers};
 ghost use Rattle.gb_base.specs.AnyValue.{flag_number};
 ghost use Rattle.gb_values.specs.Array.{native_slot};
 ghost use Rattle.gb_series.specs.Series.{value_of};
-ghost use Rattle.gb_run.specs.Folds.{fold_in, number_slots, rows_fold};
+ghost use Rattle.gb_run.specs.Folds.{fold_in, rows_fold};
 
 use gb_cols::boolean::BooleanChunked;
 use gb_cols::chunked::ChunkedArray;
@@ -132,33 +132,6 @@ impl<'a, T: PolarsNumericType> NumberFold for SumOf<'a, T> {
     }
 }
 
-/// The sum of numbers, none of them null, wrapped in their type.
-#[derive(Drop)]
-pub struct PlainSum<'a, T: PolarsNumericType> {
-    numbers: &'a [T::Native],
-}
-
-impl<'a, T: PolarsNumericType> PlainSum<'a, T> {
-    pub fn new(numbers: &'a [T::Native]) -> PlainSum<'a, T>
-        ensures { result.numbers.now ≡ numbers.now }
-    {
-        PlainSum { numbers }
-    }
-}
-
-#[tactic(auto, unfolding(gb_defs::specs::Fold::fold_picked))]
-impl<'a, T: PolarsNumericType> NumberFold for PlainSum<'a, T> {
-    type Out = T;
-
-    ghost fold = { λ f. fold_of Sum (Flat T.Native.flat) (number_slots T.Native.number f.numbers.now) };
-
-    ghost height = { λ f. length f.numbers.now };
-
-    fn over<R: GroupRows>(&self, rows: &R) -> Option<T::Native> {
-        Some(plain_sum_at(self.numbers, rows))
-    }
-}
-
 /// How many flags of a column are true, wrapped in 32 bits.
 #[derive(Drop)]
 pub struct FlagSum<'a> {
@@ -248,19 +221,6 @@ fn sum_at<T: PolarsNumericType, R: GroupRows>(
     let mut sum = T::Native::zero();
     for place in 0..rows.count() {
         sum = with_slot(sum, column.get(rows.row_at(place)));
-    }
-    sum
-}
-
-// The sum of the numbers at these rows.
-fn plain_sum_at<N: Native, R: GroupRows>(numbers: &[N], rows: &R) -> N
-    requires { All (λ row. row < length numbers.now) (R.rows rows.now) }
-    ensures { let slots = picked (number_slots N.number numbers.now) (R.rows rows.now) in
-        N.number result ≡ wrap (Flat N.flat) (total (valid slots)) }
-{
-    let mut sum = N::zero();
-    for place in 0..rows.count() {
-        sum = sum.add_wrapped(numbers[rows.row_at(place)]);
     }
     sum
 }

@@ -1,5 +1,5 @@
-//! A table read from its source block by block, so that its text is not held whole. Whole lines of a block are
-//! read by all workers, while the next is moved from the source behind what is left of it.
+//! A table read from its source block by block, so that its text is not held whole: each block in turn, or
+//! several by threads. What is left in the end is read by all workers.
 
 ghost use Rattle.std.specs.Prelude.{◌≡◌, ◌≢◌, ◌≤◌, ◌+◌, ◌<◌, [], List, ℕ, Option, Err, Ok, true, drop, length, map, IfErr, IfOk, IfSome, OnOk};
 ghost use Rattle.std.specs.Bool.{OnTrue};
@@ -12,7 +12,7 @@ ghost use Rattle.gb_run.specs.Building.{in_one_chunk};
 ghost use Rattle.gb_run.specs.Part.{HasPart, IsHeaderRefused};
 ghost use Rattle.gb_run.specs.Refusal.{IsRefusedTable};
 ghost use Rattle.gb_run.specs.Run.{HasTaken};
-ghost use Rattle.gb_run.specs.Stream.{HasReadAll, IsFewFront, IsFilled, IsFrontBy, IsReadBy, IsRefusedInput, IsSomeStreamed, IsStarted};
+ghost use Rattle.gb_run.specs.Stream.{HasReadAll, IsFewFront, IsFilled, IsFrontBy, IsReadBy, IsRefusedInput, IsSomeStreamed, IsStarted, ReadsOn};
 ghost use Rattle.gb_run.specs.declared.status.Status.TheVariants as status;
 
 use crate::status::{Status, TableError};
@@ -278,32 +278,94 @@ pub fn finish_all<R: Threads + Sync, S: Source>(
         (fields_of header.now) limit (S.left source.old) now.read held.items columns.items }
     requires ended { OnTrue now.ended (IfSome (S.left source.old) (λ rest. rest ≡ [])) }
     requires ascii { OnTrue now.ascii (IsAscii held.items) }
-    ensures ok { IfOk result (λ frame. (first : Option (List ℕ)) →
-        IsReadBy reading.now header.now limit first (S.left source.old)
-        now.read held.items columns.items →
-        HasReadAll limit first (S.left source.new)
-        (λ bytes. asked_table (names_in reading.now.names.now) bytes reading.now.null_word.now
-        ≡ Ok (map rechunked frame))) }
-    ensures err { IfErr result (λ s. (first : Option (List ℕ)) →
-        IsReadBy reading.now header.now limit first (S.left source.old)
-        now.read held.items columns.items →
-        IsRefusedInput reading.now.null_word.now (S.faults source.old) (S.faults source.new)
-        limit first (S.left source.new) s) }
-    ensures taken { result ≢ Err status.ReadFault → (first : Option (List ℕ)) →
-        IsReadBy reading.now header.now limit first (S.left source.old)
-        now.read held.items columns.items →
-        HasTaken (limit + 65536) first (S.left source.new) }
-    ensures kept { S.faults source.old ≤ S.faults source.new }
+    ensures { ReadsOn reading.now header.now limit (S.left source.old) (S.left source.new)
+        now.read held.items columns.items (S.faults source.old) (S.faults source.new) result }
 {
     let all = fill_all(source, &mut held, now, limit)?;
     let frame = finish(rt, alloc, reading, header, columns, held, all.ascii)?;
     Ok(frame)
 }
 
+// `finish_all`, where the lines of each block but the last are read before the next is moved.
+fn read_in_turn<R: Threads + Sync, S: Source>(
+    rt: &R,
+    alloc: Global,
+    source: &mut S,
+    limit: u64,
+    reading: &Reading<'_>,
+    header: &ByteRecord,
+    mut columns: Vec<ColumnBuilder>,
+    held: Vec<u8>,
+    now: Progress,
+) -> Result<DataFrame, Status>
+    requires limit { limit ≤ 4294967295 }
+    requires streamed { IsSomeStreamed (names_in reading.now.names.now) reading.now.null_word.now
+        (fields_of header.now) limit (S.left source.old) now.read held.items columns.items }
+    requires ended { OnTrue now.ended (IfSome (S.left source.old) (λ rest. rest ≡ [])) }
+    requires ascii { OnTrue now.ascii (IsAscii held.items) }
+    ensures { ReadsOn reading.now header.now limit (S.left source.old) (S.left source.new)
+        now.read held.items columns.items (S.faults source.old) (S.faults source.new) result }
+{
+    let mut window = Window {
+        held,
+        next: Vec::new(alloc),
+        now,
+    };
+    'rounds: for _ in 0..u64::MAX {
+        if !push_block(
+            rt,
+            alloc,
+            source,
+            limit,
+            reading,
+            header,
+            &mut columns,
+            &mut window,
+        )? {
+            let Window { held, next: _, now } = window;
+            let frame = finish_all(
+                rt, alloc, source, limit, reading, header, columns, held, now,
+            )?;
+            return Ok(frame);
+        }
+    }
+    Err(Status::NoMemory)
+}
+
+// `finish_all`, by threads where there are several workers.
+fn read_on<R: Threads + Sync, S: Source>(
+    rt: &R,
+    alloc: Global,
+    source: &mut S,
+    limit: u64,
+    reading: &Reading<'_>,
+    header: &ByteRecord,
+    columns: Vec<ColumnBuilder>,
+    held: Vec<u8>,
+    now: Progress,
+) -> Result<DataFrame, Status>
+    requires limit { limit ≤ 4294967295 }
+    requires streamed { IsSomeStreamed (names_in reading.now.names.now) reading.now.null_word.now
+        (fields_of header.now) limit (S.left source.old) now.read held.items columns.items }
+    requires ended { OnTrue now.ended (IfSome (S.left source.old) (λ rest. rest ≡ [])) }
+    requires ascii { OnTrue now.ascii (IsAscii held.items) }
+    ensures { ReadsOn reading.now header.now limit (S.left source.old) (S.left source.new)
+        now.read held.items columns.items (S.faults source.old) (S.faults source.new) result }
+{
+    if reading.workers > 1 {
+        read_queued(
+            rt, alloc, source, limit, reading, header, columns, held, now,
+        )
+    } else {
+        read_in_turn(
+            rt, alloc, source, limit, reading, header, columns, held, now,
+        )
+    }
+}
+
 /// The columns that are asked for of the table that the source has left, if it is at most `limit` bytes,
 /// in any chunks. Every cell of every column is checked, and the first fault in reading order is told with
-/// its row and column, once the source is read to its end. Lines are read by all workers; with one no thread
-/// is started.
+/// its row and column, once the source is read to its end. With one worker no thread is started.
 pub fn read_table<R: Threads + Sync, S: Source>(
     rt: &R,
     alloc: Global,
@@ -339,40 +401,14 @@ pub fn read_table<R: Threads + Sync, S: Source>(
     };
     let Start {
         header,
-        mut columns,
+        columns,
         lines,
     } = start;
     keep_from(&mut held, lines)?;
     let enough = reading.block.min(FIRST_BLOCK);
     let now = fill(source, &mut held, first.read, limit, enough)?;
-    if reading.workers > 1 {
-        let queued = read_queued(
-            rt, alloc, source, limit, reading, &header, columns, held, now,
-        )?;
-        return Ok(queued);
-    }
-    let mut window = Window {
-        held,
-        next: Vec::new(alloc),
-        now,
-    };
-    'rounds: for _ in 0..u64::MAX {
-        if !push_block(
-            rt,
-            alloc,
-            source,
-            limit,
-            reading,
-            &header,
-            &mut columns,
-            &mut window,
-        )? {
-            let Window { held, next: _, now } = window;
-            let frame = finish_all(
-                rt, alloc, source, limit, reading, &header, columns, held, now,
-            )?;
-            return Ok(frame);
-        }
-    }
-    Err(Status::NoMemory)
+    let frame = read_on(
+        rt, alloc, source, limit, reading, &header, columns, held, now,
+    )?;
+    Ok(frame)
 }

@@ -9,7 +9,7 @@ ghost use Rattle.gb_defs.specs.Column.{rechunked};
 ghost use Rattle.gb_run.specs.Asked.{asked_table, names_in};
 ghost use Rattle.gb_run.specs.Queue.{IsQueueBy, IsQueuedBy, IsSomeLast, IsSomeQueue, IsSomeQueueOf, IsSomeQueued, PassesLast, StaysQueue, unread};
 ghost use Rattle.gb_run.specs.Run.{HasTaken};
-ghost use Rattle.gb_run.specs.Stream.{HasReadAll, IsReadBy, IsRefusedInput, IsSomeStreamed};
+ghost use Rattle.gb_run.specs.Stream.{IsReadBy, IsRefusedInput, IsSomeStreamed, ReadsOn};
 ghost use Rattle.gb_run.specs.declared.status.Status.TheVariants as status;
 
 use crate::status::Status;
@@ -386,22 +386,8 @@ pub fn read_queued<R: Threads + Sync, S: Source>(
         (fields_of header.now) limit (S.left source.old) now.read held.items columns.items }
     requires ended { OnTrue now.ended (IfSome (S.left source.old) (λ rest. rest ≡ [])) }
     requires ascii { OnTrue now.ascii (IsAscii held.items) }
-    ensures ok { IfOk result (λ frame. (first : Option (List ℕ)) →
-        IsReadBy reading.now header.now limit first (S.left source.old)
-        now.read held.items columns.items →
-        HasReadAll limit first (S.left source.new)
-        (λ bytes. asked_table (names_in reading.now.names.now) bytes reading.now.null_word.now
-        ≡ Ok (map rechunked frame))) }
-    ensures err { IfErr result (λ s. (first : Option (List ℕ)) →
-        IsReadBy reading.now header.now limit first (S.left source.old)
-        now.read held.items columns.items →
-        IsRefusedInput reading.now.null_word.now (S.faults source.old) (S.faults source.new)
-        limit first (S.left source.new) s) }
-    ensures taken { result ≢ Err status.ReadFault → (first : Option (List ℕ)) →
-        IsReadBy reading.now header.now limit first (S.left source.old)
-        now.read held.items columns.items →
-        HasTaken (limit + 65536) first (S.left source.new) }
-    ensures kept { S.faults source.old ≤ S.faults source.new }
+    ensures { ReadsOn reading.now header.now limit (S.left source.old) (S.left source.new)
+        now.read held.items columns.items (S.faults source.old) (S.faults source.new) result }
 {
     let mut ahead = Ahead {
         jobs: VecDeque::new(alloc),

@@ -3,7 +3,7 @@ use Rattle.std.proofs.lemmas.Result.{IfOk-weaker}
 use Rattle.gb_defs.specs.Slot.{Slot}
 use Rattle.gb_defs.specs.ColumnType.{uint32}
 use Rattle.gb_defs.specs.Groups.{lists_in}
-use Rattle.gb_groups.specs.GroupsType.{groups_of}
+use Rattle.gb_run.specs.GroupPart.{part_of}
 use Rattle.gb_series.specs.Series.{value_of}
 use Rattle.gb_base.specs.PlSmallStr.{name_of}
 use Rattle.gb_paths.proofs.MemberLemmas.{members_more}
@@ -21,7 +21,7 @@ pub returns-then-include_nulls-clause-ok : goal.returns-then-include_nulls-claus
 returns-then-include_nulls-clause-ok c =
     let name = name_of c.args.name in
     let column = value_of c.args.column.now in
-    let lists = lists_in (groups_of c.args.groups.now) in
+    let lists = lists_in (part_of c.args.groups.now) in
     rw c.if-include_nulls.true (IfOk-weaker c.fold_groups.result _ _ (λ counts e. e ∙ ap (λ (f : List ℕ → Slot). fold_column name uint32 f lists) (counted_rows name column lists)) c.fold_groups.ensures.ok)
 
 pub returns-else-include_nulls-clause-ok : goal.returns-else-include_nulls-clause-ok

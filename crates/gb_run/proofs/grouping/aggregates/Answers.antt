@@ -19,13 +19,13 @@ use Rattle.gb_run.proofs.PartLemmas.{parts_more}
 use Rattle.gb_run.proofs.grouping.aggregates.Goals as goal
 
 pub found_aggregate-requires-clause-found : goal.found_aggregate-requires-clause-found
-found_aggregate-requires-clause-found c =
+found_aggregate-requires-clause-found g c κs within =
     let frame = c.args.frame.now in
     subst (λ (agg : Agg). is_none (find_column frame (name_of agg.column)) ≡ false) (sym c.agg-item.is)
     (found_at frame c.args.aggs.now c.loop-agg.agg-index c.agg-item.result c.loop-agg-test.true c.requires.found)
 
 pub returns-in_err-found_aggregate-clause-err : goal.returns-in_err-found_aggregate-clause-err
-returns-in_err-found_aggregate-clause-err c =
+returns-in_err-found_aggregate-clause-err g c =
     let frame = c.args.frame.now in
     let aggs = c.args.aggs.now in
     let explained : (e : _) → Explains e (unfit_cause frame c.agg-item.result) → Explains e (unfit_fault frame (aggs_of aggs)) =
@@ -34,7 +34,7 @@ returns-in_err-found_aggregate-clause-err c =
     rw (p.1, p.2) (explained c.in_err-found_aggregate.field-0.0 c.in_err-found_aggregate.ensures.err)
 
 pub loop-agg-preserved : goal.loop-agg-preserved
-loop-agg-preserved c =
+loop-agg-preserved g c =
     let frame = c.args.frame.now in
     let aggs = c.args.aggs.now in
     let i = c.loop-agg.agg-index in
@@ -49,12 +49,12 @@ loop-agg-preserved c =
     }
 
 pub returns-clause-ok : goal.returns-clause-ok
-returns-clause-ok c =
+returns-clause-ok g c =
     c.loop-agg.invariant.parts
     ∙ ap (λ (aggs : List Agg). aggregates_over c.args.frame.now (aggs_of aggs) (lists_in (groups_of c.args.groups.now)))
     (take_all c.loop-agg.agg-index c.args.aggs.now (omega (arith, c.loop-agg-test.false)))
 
 pub returns-clause-fits : goal.returns-clause-fits
-returns-clause-fits c =
+returns-clause-fits g c =
     let aggs = c.args.aggs.now in
     unfit_is c.args.frame.now aggs ∙ ap (first_cause (unfit_cause c.args.frame.now)) (sym (take_all c.loop-agg.agg-index aggs (omega (arith, c.loop-agg-test.false)))) ∙ c.loop-agg.invariant.fit

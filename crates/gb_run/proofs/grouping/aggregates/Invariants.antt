@@ -8,7 +8,7 @@ use Rattle.gb_run.proofs.CauseLemmas.{first_cause}
 use Rattle.gb_run.proofs.grouping.aggregates.Given as goal
 
 abbrev pub invariant-loop-agg : goal.invariant-loop-agg
-invariant-loop-agg l = record {
+invariant-loop-agg g l = record {
   parts : contents_of l.columns.items ≡ aggregates_over l.frame (aggs_of (take l.agg-index l.aggs)) (lists_in (groups_of l.groups));
   fit : first_cause (unfit_cause l.frame) (take l.agg-index l.aggs) ≡ None;
 }

@@ -7,8 +7,8 @@ use Rattle.gb_series.proofs.FrameLemmas.{found_long}
 use Rattle.gb_defs.specs.Groups.{AreMembers, lists_in}
 use Rattle.gb_run.proofs.grouping.found_aggregate.Goals as goal
 
-pub aggregate-requires-clause-groups : goal.aggregate-requires-clause-groups
-aggregate-requires-clause-groups c =
+pub aggregate_all-requires-clause-groups : goal.aggregate_all-requires-clause-groups
+aggregate_all-requires-clause-groups g c κs within =
     let frame = c.args.frame.now in
     let long = found_long (frame_height frame) frame (name_of c.args.agg.now.column) (value_of c.in_ok-column.column.now) c.requires.frame.aligned (rw (← c.as_str.ensures) c.in_ok-column.ensures.ok) in
     record {
@@ -16,8 +16,8 @@ aggregate-requires-clause-groups c =
       few = c.requires.few;
     }
 
-pub aggregate-requires-clause-short : goal.aggregate-requires-clause-short
-aggregate-requires-clause-short c =
+pub aggregate_all-requires-clause-short : goal.aggregate_all-requires-clause-short
+aggregate_all-requires-clause-short g c κs within =
     let frame = c.args.frame.now in
     let long = found_long (frame_height frame) frame (name_of c.args.agg.now.column) (value_of c.in_ok-column.column.now) c.requires.frame.aligned (rw (← c.as_str.ensures) c.in_ok-column.ensures.ok) in
     subst (λ (n : ℕ). n < 4294967296) (sym long) c.requires.short

@@ -36,17 +36,17 @@ key_groups-requires-clause-few g c κs within =
     subst (λ (n : ℕ). n < 4294967296) (sym long) (subst HasRowNumbers c.height.ensures.value c.in_ok-check_height.ensures.ok)
 
 pub answer_columns-requires-clause-firsts : goal.answer_columns-requires-clause-firsts
-answer_columns-requires-clause-firsts g c =
+answer_columns-requires-clause-firsts g c κs within =
     key_firsts c.args.frame.now c.height.ensures.frame (name_of c.args.by.now) (value_of c.args.key.now) c.requires
     (groups_of c.in_ok-groups.groups) c.in_ok-groups.ensures.ok c.in_ok-groups.ensures.formed
 
 pub answer_columns-requires-clause-rows : goal.answer_columns-requires-clause-rows
-answer_columns-requires-clause-rows g c =
+answer_columns-requires-clause-rows g c κs within =
     key_lists c.args.frame.now c.height.ensures.frame (name_of c.args.by.now) (value_of c.args.key.now) c.requires
     (groups_of c.in_ok-groups.groups) c.in_ok-groups.ensures.ok c.in_ok-groups.ensures.formed
 
 pub answer_columns-requires-clause-few : goal.answer_columns-requires-clause-few
-answer_columns-requires-clause-few g c =
+answer_columns-requires-clause-few g c κs within =
     key_few c.args.frame.now c.height.ensures.frame (name_of c.args.by.now) (value_of c.args.key.now) c.requires
     (groups_of c.in_ok-groups.groups) c.in_ok-groups.ensures.ok (subst HasRowNumbers c.height.ensures.value c.in_ok-check_height.ensures.ok)
 
