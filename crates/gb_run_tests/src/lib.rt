@@ -1,0 +1,5 @@
+//! Tests of runs over many rows. They are a crate of their own, since the gate proves a crate with tests twice.
+#![tactic(auto)]
+
+#[cfg(test)]
+mod many_rows;
