@@ -58,9 +58,9 @@ impl ByteKind for Text {
     }
 }
 
-// Whether a cell is a text, with no look at one that is known to be.
+/// Whether a cell is a text, with no look at one that is known to be.
 #[inline]
-fn is_utf8(cell: &[u8], is_text: bool) -> bool
+pub fn is_utf8(cell: &[u8], is_text: bool) -> bool
     requires { is_text ≡ true → IsUtf8 cell.now }
     ensures { result ≡ is_utf8 cell.now }
 {
