@@ -1,4 +1,3 @@
 pub mod Categorical
 pub mod CategoricalBuilder
 pub mod Logical
-pub mod TextCoder

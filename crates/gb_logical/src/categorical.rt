@@ -13,7 +13,6 @@ ghost use Rattle.gb_base.specs.PlSmallStr.{IsNoMemory, name_of};
 
 pub mod builder;
 mod codes;
-mod text_coder;
 
 use builder::CategoricalBuilder;
 pub use codes::codes_in_range;

@@ -9,7 +9,6 @@ ghost use Rattle.gb_base.specs.PlSmallStr.{IsNoMemory, name_of};
 
 use super::CategoricalChunked;
 use super::codes::code_column;
-use super::text_coder::TextCoder;
 use gb_base::data_type::CategoricalOrdering;
 use gb_base::error::PolarsResult;
 use gb_base::rev_mapping::RevMapping;
@@ -18,6 +17,7 @@ use gb_cols::chunked::StringChunked;
 use gb_cols::primitive::UInt32Chunked;
 use gb_cols::series_trait::SeriesTrait;
 use gb_numbers::numeric::UInt32Type;
+use gb_table::text_table::TextTable;
 use gb_values::nullable::NullableArray;
 use gb_values::primitive::PrimitiveArray;
 use std::alloc::{AllocError, Global};
@@ -32,7 +32,7 @@ pub struct CategoricalBuilder {
     alloc: Global,
     name: PlSmallStr,
     ordering: CategoricalOrdering,
-    known: TextCoder,
+    known: TextTable,
     codes: PrimitiveArray<UInt32Type>,
 }
 
@@ -66,7 +66,7 @@ impl CategoricalBuilder {
             alloc,
             name,
             ordering,
-            known: TextCoder::new(alloc),
+            known: TextTable::new(alloc),
             codes: NullableArray::empty(alloc),
         }
     }
@@ -86,7 +86,7 @@ impl CategoricalBuilder {
         ensures err { OnErr result (self.new ≡ fresh_column self.old.name self.old.dtype []) }
     {
         let alloc = texts.allocator();
-        let mut known = mem::replace(&mut self.known, TextCoder::new(alloc));
+        let mut known = mem::replace(&mut self.known, TextTable::new(alloc));
         let mut codes = mem::replace(&mut self.codes, NullableArray::empty(alloc));
         codes.reserve(texts.len())?;
         code_column(texts, &mut known, &mut codes)?;
@@ -108,7 +108,7 @@ impl CategoricalBuilder {
             known,
             codes,
         } = self;
-        let map = RevMapping::from_table(known.into_table());
+        let map = RevMapping::from_table(known);
         Ok(CategoricalChunked {
             physical: UInt32Chunked::from_chunk(alloc, name, codes),
             map: Arc::new(alloc, map)?,

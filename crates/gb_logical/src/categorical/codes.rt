@@ -5,11 +5,11 @@ ghost use Rattle.gb_defs.specs.Table.{coded_slot, texts_after, with_text};
 ghost use Rattle.gb_values.specs.Array.{native_slot, text_slot};
 ghost use Rattle.gb_logical.specs.Categorical.{HasMarked, IsCodeBelow};
 
-use super::text_coder::TextCoder;
 use gb_cols::chunked::StringChunked;
 use gb_cols::primitive::UInt32Chunked;
 use gb_cols::series_trait::SeriesTrait;
 use gb_numbers::numeric::UInt32Type;
+use gb_table::text_table::TextTable;
 use gb_values::primitive::PrimitiveArray;
 use gb_values::utf8::Utf8Array;
 use std::alloc::AllocError;
@@ -18,7 +18,7 @@ use std::alloc::AllocError;
 /// known.
 pub(super) fn code_column(
     texts: &StringChunked,
-    known: &mut TextCoder,
+    known: &mut TextTable,
     codes: &mut PrimitiveArray<UInt32Type>,
 ) -> Result<(), AllocError>
     requires { length known.old + length texts.now.slots ≤ 4294967295 }
@@ -37,7 +37,7 @@ pub(super) fn code_column(
 // The same for the texts of a chunk.
 fn code_texts(
     texts: &Utf8Array,
-    known: &mut TextCoder,
+    known: &mut TextTable,
     codes: &mut PrimitiveArray<UInt32Type>,
 ) -> Result<(), AllocError>
     requires { length known.old + length texts.now ≤ 4294967295 }
@@ -55,7 +55,7 @@ fn code_texts(
 #[inline]
 fn code_text(
     text: Option<&str>,
-    known: &mut TextCoder,
+    known: &mut TextTable,
     codes: &mut PrimitiveArray<UInt32Type>,
 ) -> Result<(), AllocError>
     requires { length known.old < 4294967295 }
@@ -64,7 +64,7 @@ fn code_text(
         OnOk result (codes.new ≡ codes.old ++ slot ∷ []) }
 {
     match text {
-        Some(text) => codes.push(Some(known.code_of(text)?))?,
+        Some(text) => codes.push(Some(known.number_of(text)?))?,
         None => codes.push(None)?,
     }
     Ok(())

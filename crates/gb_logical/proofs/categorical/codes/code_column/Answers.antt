@@ -1,4 +1,4 @@
-use Rattle.std.proofs.Common.{◌+◌, ◌∙◌, List, ap, sym, subst, length, arith}
+use Rattle.std.proofs.Common.{ℕ, ◌+◌, ◌∙◌, List, ap, sym, subst, length, arith}
 use Rattle.gb_defs.specs.Column.{ColumnValue}
 use Rattle.gb_defs.specs.Slot.{Slot}
 use Rattle.gb_cols.proofs.ChunkedLemmas.{before_few, before_more, front_all, front_more, front_slots}

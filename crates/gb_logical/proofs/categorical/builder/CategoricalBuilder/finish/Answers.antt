@@ -11,12 +11,12 @@ use Rattle.gb_logical.proofs.categorical.builder.CategoricalBuilder.finish.Goals
 pub invariant_of-result : goal.invariant_of-result
 invariant_of-result c =
     let coded = c.self.invariant.coded in
-    rw (c.in_ok-new.ensures.ok, c.from_table-map.ensures, c.into_table.ensures, c.from_chunk.ensures) (record { typed = refl; below = all_below coded c.self.invariant.fitting; used = λ told. all_used coded })
+    rw (c.in_ok-new.ensures.ok, c.from_table-map.ensures, c.from_chunk.ensures) (record { typed = refl; below = all_below coded c.self.invariant.fitting; used = λ told. all_used coded })
 
 pub returns-clause-ok : goal.returns-clause-ok
 returns-clause-ok c =
     let texts = c.self.inside.known in
     let ordering = ordering_of c.self.inside.ordering in
     let t = λ (ts : List (List ℕ)). Flat (category_type false ts ordering) in
-    ap (λ ts. coded_as (t ts) true c.from_chunk.result) (c.in_ok-new.ensures.ok ∙ c.from_table-map.ensures ∙ c.into_table.ensures) ∙ ap (coded_as (t texts) true) c.from_chunk.ensures
+    ap (λ ts. coded_as (t ts) true c.from_chunk.result) (c.in_ok-new.ensures.ok ∙ c.from_table-map.ensures) ∙ ap (coded_as (t texts) true) c.from_chunk.ensures
     ∙ coded_column c.self.invariant.coded (name_of c.self.inside.name) ordering ∙ ap (λ (v : ColumnValue). read_column v.name v.dtype v.slots) c.self.view_is
