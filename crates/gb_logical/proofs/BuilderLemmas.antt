@@ -1,12 +1,15 @@
 -- Codes and the texts that they stand for.
-use Rattle.std.proofs.Common.{◌≡◌, ℕ, pos, List, [], ◌∷◌, ◌++◌, map, get_or, position, unwrap_or, refl, sym, ap, ap₂, subst, ◌∙◌, true, Some}
-use Rattle.std.specs.Str.{bytes_eq}
+use Rattle.std.proofs.Common.{false, true, None, Option, IfSome, Bor, ◌≡◌, ℕ, pos, List, [], ◌∷◌, ◌++◌, map, get_or, position, unwrap_or, refl, sym, ap, ap₂, subst, ◌∙◌, true, Some}
+use Rattle.std.specs.Str.{IsUtf8, bytes_eq, is_utf8}
+use Rattle.std.proofs.lemmas.Str.{is_utf8-from_IsUtf8}
+use Rattle.gb_defs.specs.Cell.{cell_slot}
+use Rattle.gb_values.specs.Array.{text_slot}
 use Rattle.std.specs.List.{All}
 use Rattle.std.specs.Cmp.Lexicographic.{bytes_decides}
-use Rattle.std.proofs.lemmas.List.Elements.{All-append, All-nil}
+use Rattle.std.proofs.lemmas.List.Elements.{All-append, All-nil, All-push}
 use Rattle.std.proofs.lemmas.List.Quantifiers.{position-Some}
 use Rattle.gb_defs.specs.CellText.{code_text}
-use Rattle.gb_defs.specs.ColumnType.{Fits, text}
+use Rattle.gb_defs.specs.ColumnType.{Categorical, CategoricalOrdering, ColumnType, Fits, Flat, text}
 use Rattle.gb_defs.specs.Slot.{Slot, Nil, Num, Bytes, Items}
 use Rattle.gb_defs.specs.Table.{coded_slot, texts_after, with_text}
 use Rattle.gb_logical.specs.CategoricalBuilder.{AreCoded, AreSoFar, decoded_slot}
@@ -62,3 +65,25 @@ module _ {texts : List (List ℕ)} {codes : List Slot} (so_far : AreSoFar texts 
     coded = subst (λ (ss : List Slot). AreCoded [] [] ss texts' codes') (sym decoded_more) coded_all;
     fitting = subst (All (Fits text)) (sym decoded_more) fits_all;
   }
+
+-- ---- a cell
+
+pub fits_one : (o : Option (Bor (List ℕ))) → IfSome o (λ t. IsUtf8 t.now) → All (Fits text) (text_slot o ∷ [])
+fits_one None utf8 = All-push (Fits text) [] Nil (All-nil (Fits text)) tt
+fits_one (Some bytes) utf8 = All-push (Fits text) [] (Bytes bytes.now) (All-nil (Fits text)) utf8
+
+module _ (null_word cell : List ℕ) (ordering : CategoricalOrdering) where
+  abbrev category : ColumnType
+  category = Flat (Categorical None ordering)
+
+  pub null_cell : bytes_eq cell null_word ≡ true → cell_slot null_word category cell ≡ Some Nil
+  unfolding cell_slot
+  null_cell same = rw same refl
+
+  pub text_cell : bytes_eq cell null_word ≡ false → IsUtf8 cell → cell_slot null_word category cell ≡ Some (Bytes cell)
+  unfolding cell_slot
+  text_cell other utf8 = rw (other, is_utf8-from_IsUtf8 cell utf8) refl
+
+  pub no_cell : bytes_eq cell null_word ≡ false → is_utf8 cell ≡ false → cell_slot null_word category cell ≡ None
+  unfolding cell_slot
+  no_cell other bad = rw (other, bad) refl

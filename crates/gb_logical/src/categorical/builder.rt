@@ -1,14 +1,20 @@
 //! Columns of categories while their texts come.
 
-ghost use Rattle.std.specs.Prelude.{◌≡◌, ◌+◌, ◌++◌, ◌≤◌, None, [], length, IfErr, IfOk, OnOk, OnErr};
+ghost use Rattle.std.specs.Prelude.{◌≡◌, ◌+◌, ◌++◌, ◌≤◌, ◌<◌, None, [], length, option_map, true, IfErr, IfOk, IfSome, OnOk, OnErr};
+ghost use Rattle.std.specs.Bool.{OnFalse};
+ghost use Rattle.std.specs.Str.{IsUtf8};
+ghost use Rattle.gb_defs.specs.Cell.{cell_slot};
 ghost use Rattle.gb_defs.specs.Column.{fresh_column};
 ghost use Rattle.gb_defs.specs.ColumnType.{Categorical, Flat};
 ghost use Rattle.gb_defs.specs.Table.{read_column};
 ghost use Rattle.gb_base.specs.DataType.{ordering_of};
 ghost use Rattle.gb_base.specs.PlSmallStr.{IsNoMemory, name_of};
+ghost use Rattle.gb_numbers.specs.Taken.{if_taken};
+ghost use Rattle.gb_values.specs.Array.{text_slot};
+ghost use Rattle.gb_logical.specs.CategoricalBuilder.{with_slot};
 
 use super::CategoricalChunked;
-use super::codes::code_column;
+use super::codes::{code_column, code_text};
 use gb_base::data_type::CategoricalOrdering;
 use gb_base::error::PolarsResult;
 use gb_base::rev_mapping::RevMapping;
@@ -20,6 +26,7 @@ use gb_numbers::numeric::UInt32Type;
 use gb_table::text_table::TextTable;
 use gb_values::nullable::NullableArray;
 use gb_values::primitive::PrimitiveArray;
+use gb_values::utf8::is_utf8;
 use std::alloc::{AllocError, Global};
 use std::marker::Model;
 use std::mem;
@@ -93,6 +100,49 @@ impl CategoricalBuilder {
         self.known = known;
         self.codes = codes;
         Ok(())
+    }
+
+    // A text behind those before, null for none. After an error there are no rows.
+    fn push_text(&mut self, text: Option<&str>) -> Result<(), AllocError>
+        requires room { length self.old.slots < 4294967295 }
+        requires utf8 { IfSome text (λ t. IsUtf8 t.now) }
+        ensures ok { OnOk result (self.new ≡ with_slot self.old (text_slot text.entry)) }
+        ensures err { OnErr result (self.new ≡ fresh_column self.old.name self.old.dtype []) }
+    {
+        let mut known = mem::replace(&mut self.known, TextTable::new(self.alloc));
+        let mut codes = mem::replace(&mut self.codes, NullableArray::empty(self.alloc));
+        code_text(text, &mut known, &mut codes)?;
+        self.known = known;
+        self.codes = codes;
+        Ok(())
+    }
+
+    /// The text of a table's cell behind those before, or null, and whether the cell reads. A cell that is known
+    /// to be a text is not looked at again. After an error there are no rows.
+    pub fn push_cell(
+        &mut self,
+        cell: &[u8],
+        is_text: bool,
+        null_word: &str,
+    ) -> Result<bool, AllocError>
+        requires room { length self.old.slots < 4294967295 }
+        requires is_text { is_text ≡ true → IsUtf8 cell.now }
+        ensures ok { let slot = cell_slot null_word.now self.old.dtype cell.now in
+            IfOk result (λ took. if_taken took self.new ≡ option_map (with_slot self.old) slot) }
+        ensures refused { IfOk result (λ took. OnFalse took (self.new ≡ self.old)) }
+        ensures err { OnErr result (self.new ≡ fresh_column self.old.name self.old.dtype []) }
+    {
+        // The use of a field tells the column's type.
+        let _ = &self.name;
+        if cell == null_word.as_bytes() {
+            self.push_text(None)?;
+            return Ok(true);
+        }
+        if !is_utf8(cell, is_text) {
+            return Ok(false);
+        }
+        self.push_text(Some(unsafe { str::from_utf8_unchecked(cell) }))?;
+        Ok(true)
     }
 
     /// The column of the rows.

@@ -51,9 +51,9 @@ fn code_texts(
     Ok(())
 }
 
-// The code of one text more, null for none.
+/// The code of one text more, null for none.
 #[inline]
-fn code_text(
+pub(super) fn code_text(
     text: Option<&str>,
     known: &mut TextTable,
     codes: &mut PrimitiveArray<UInt32Type>,
