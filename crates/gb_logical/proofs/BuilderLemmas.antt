@@ -9,6 +9,9 @@ use Rattle.std.specs.Cmp.Lexicographic.{bytes_decides}
 use Rattle.std.proofs.lemmas.List.Elements.{All-append, All-nil, All-push}
 use Rattle.std.proofs.lemmas.List.Quantifiers.{position-Some}
 use Rattle.gb_defs.specs.CellText.{code_text}
+use Rattle.gb_defs.specs.Column.{fresh_column}
+use Rattle.gb_cols.specs.Column.{pushed}
+use Rattle.std.proofs.lemmas.List.{length-append}
 use Rattle.gb_defs.specs.ColumnType.{Categorical, CategoricalOrdering, ColumnType, Fits, Flat, text}
 use Rattle.gb_defs.specs.Slot.{Slot, Nil, Num, Bytes, Items}
 use Rattle.gb_defs.specs.Table.{coded_slot, texts_after, with_text}
@@ -67,6 +70,10 @@ module _ {texts : List (List ℕ)} {codes : List Slot} (so_far : AreSoFar texts 
   }
 
 -- ---- a cell
+
+-- a push to a column in one chunk
+pub pushed_fresh : (name : List ℕ) (t : ColumnType) (slots : List Slot) (slot : Slot) → pushed (fresh_column name t slots) slot ≡ fresh_column name t (slots ++ slot ∷ [])
+pushed_fresh name t slots slot = rw (length-append slots (slot ∷ []))
 
 pub fits_one : (o : Option (Bor (List ℕ))) → IfSome o (λ t. IsUtf8 t.now) → All (Fits text) (text_slot o ∷ [])
 fits_one None utf8 = All-push (Fits text) [] Nil (All-nil (Fits text)) tt

@@ -1,8 +1,7 @@
 -- Texts that have their codes so far.
-use Rattle.std.specs.Prelude.{◌≡◌, ℕ, List, [], ◌∷◌, ◌++◌, map, Some}
+use Rattle.std.specs.Prelude.{◌≡◌, ℕ, List, [], ◌++◌, map, Some}
 use Rattle.std.specs.List.{All}
 use Rattle.gb_defs.specs.CellText.{code_text}
-use Rattle.gb_defs.specs.Column.{ColumnValue, fresh_column}
 use Rattle.gb_defs.specs.ColumnType.{Fits, text}
 use Rattle.gb_defs.specs.Slot.{Slot, Num, Bytes}
 use Rattle.gb_defs.specs.Table.{coded_slot, texts_after}
@@ -21,7 +20,3 @@ pub record AreCoded (known : List (List ℕ)) (before slots : List Slot) (texts 
 pub record AreSoFar (texts : List (List ℕ)) (codes : List Slot) : Type 0 where
   pub coded : AreCoded [] [] (map (decoded_slot texts) codes) texts codes
   pub fitting : All (Fits text) (map (decoded_slot texts) codes)
-
--- a column in one chunk with one slot more
-abbrev pub with_slot : ColumnValue → Slot → ColumnValue
-with_slot c slot = fresh_column c.name c.dtype (c.slots ++ slot ∷ [])

@@ -19,7 +19,7 @@ use Rattle.gb_run.specs.Building as building
 use Rattle.gb_run.specs.Building.{Building, building_with, in_one_chunk, taken}
 use Rattle.gb_run.specs.Part.{joined_to}
 use Rattle.gb_run.specs.declared.table.builder.Cells.{Cells}
-use Rattle.gb_run.proofs.PushLemmas.{pushed_fresh}
+use Rattle.gb_logical.proofs.BuilderLemmas.{pushed_fresh}
 
 -- a cell that is taken leaves the type
 pub same_type : (null_word cell : List ℕ) (old new : ColumnValue) (took : Bool) → TakesCell null_word old new cell took → OnFalse took (new ≡ old) → new.dtype ≡ old.dtype

@@ -18,7 +18,7 @@ use Rattle.gb_base.specs.AnyValue.{flag_number}
 use Rattle.gb_values.specs.Array.{native_slot}
 use Rattle.gb_cols.specs.Column.{pushed}
 use Rattle.gb_logical.specs.Logical.{SumsAs, logical_column}
-use Rattle.gb_run.proofs.PushLemmas.{pushed_fresh}
+use Rattle.gb_logical.proofs.BuilderLemmas.{pushed_fresh}
 
 -- the columns are the aggregates
 module _ (name : List ℕ) (c : ColumnValue) (lists : List (List ℕ)) where

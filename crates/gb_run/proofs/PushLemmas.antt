@@ -7,17 +7,10 @@ use Rattle.std.specs.Str.{IsAscii, IsUtf8}
 use Rattle.std.proofs.lemmas.Str.{IsUtf8-from_ascii}
 use Rattle.csv.specs.Records.{AllText, cut_from, field_at}
 use Rattle.gb_defs.specs.Slot.{Slot}
-use Rattle.gb_defs.specs.ColumnType.{ColumnType}
 use Rattle.gb_defs.specs.Cell.{cell_slot}
-use Rattle.gb_defs.specs.Column.{fresh_column}
 use Rattle.gb_defs.specs.Table.{TableFault, Ragged, BadCell, onto, cell_onto, cells_from}
-use Rattle.gb_cols.specs.Column.{pushed}
 use Rattle.gb_run.specs.Building.{Building, building_with, taken}
 use Rattle.gb_run.specs.Table.{map_ok, columns_with, head_in, taken_each}
-
--- a push to a column in one chunk
-pub pushed_fresh : (name : List ℕ) (t : ColumnType) (slots : List Slot) (slot : Slot) → pushed (fresh_column name t slots) slot ≡ fresh_column name t (slots ++ slot ∷ [])
-pushed_fresh name t slots slot = rw (length-append slots (slot ∷ []))
 
 -- ---- the fields of a record
 

@@ -15,7 +15,7 @@ use Rattle.gb_run.specs.Asked.{is_asked, kept}
 use Rattle.gb_run.specs.Building.{IsRoomy, IsWhole, kept_slot, read_if_kept, taken}
 use Rattle.gb_run.specs.Part.{HasFew}
 use Rattle.gb_run.specs.Table.{built_from, built_of, head_in, taken_each}
-use Rattle.gb_run.proofs.PushLemmas.{pushed_fresh}
+use Rattle.gb_logical.proofs.BuilderLemmas.{pushed_fresh}
 
 -- ---- columns whose cells were read
 

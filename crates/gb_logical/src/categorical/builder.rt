@@ -1,17 +1,15 @@
 //! Columns of categories while their texts come.
 
-ghost use Rattle.std.specs.Prelude.{◌≡◌, ◌+◌, ◌++◌, ◌≤◌, ◌<◌, None, [], length, option_map, true, IfErr, IfOk, IfSome, OnOk, OnErr};
+ghost use Rattle.std.specs.Prelude.{◌≡◌, ◌+◌, ◌++◌, ◌≤◌, ◌<◌, None, [], length, true, IfErr, IfOk, IfSome, OnOk, OnErr};
 ghost use Rattle.std.specs.Bool.{OnFalse};
 ghost use Rattle.std.specs.Str.{IsUtf8};
-ghost use Rattle.gb_defs.specs.Cell.{cell_slot};
 ghost use Rattle.gb_defs.specs.Column.{fresh_column};
 ghost use Rattle.gb_defs.specs.ColumnType.{Categorical, Flat};
 ghost use Rattle.gb_defs.specs.Table.{read_column};
 ghost use Rattle.gb_base.specs.DataType.{ordering_of};
 ghost use Rattle.gb_base.specs.PlSmallStr.{IsNoMemory, name_of};
-ghost use Rattle.gb_numbers.specs.Taken.{if_taken};
+ghost use Rattle.gb_cols.specs.Column.{TakesCell, pushed};
 ghost use Rattle.gb_values.specs.Array.{text_slot};
-ghost use Rattle.gb_logical.specs.CategoricalBuilder.{with_slot};
 
 use super::CategoricalChunked;
 use super::codes::{code_column, code_text};
@@ -106,7 +104,7 @@ impl CategoricalBuilder {
     fn push_text(&mut self, text: Option<&str>) -> Result<(), AllocError>
         requires room { length self.old.slots < 4294967295 }
         requires utf8 { IfSome text (λ t. IsUtf8 t.now) }
-        ensures ok { OnOk result (self.new ≡ with_slot self.old (text_slot text.entry)) }
+        ensures ok { OnOk result (self.new ≡ pushed self.old (text_slot text.entry)) }
         ensures err { OnErr result (self.new ≡ fresh_column self.old.name self.old.dtype []) }
     {
         let mut known = mem::replace(&mut self.known, TextTable::new(self.alloc));
@@ -127,8 +125,7 @@ impl CategoricalBuilder {
     ) -> Result<bool, AllocError>
         requires room { length self.old.slots < 4294967295 }
         requires is_text { is_text ≡ true → IsUtf8 cell.now }
-        ensures ok { let slot = cell_slot null_word.now self.old.dtype cell.now in
-            IfOk result (λ took. if_taken took self.new ≡ option_map (with_slot self.old) slot) }
+        ensures ok { IfOk result (TakesCell null_word.now self.old self.new cell.now) }
         ensures refused { IfOk result (λ took. OnFalse took (self.new ≡ self.old)) }
         ensures err { OnErr result (self.new ≡ fresh_column self.old.name self.old.dtype []) }
     {

@@ -1,4 +1,4 @@
-use Rattle.std.proofs.Common.{◌++◌, ◌∷◌, ◌∙◌, List, ℕ, [], None, ap, arith, length, map}
+use Rattle.std.proofs.Common.{◌++◌, ◌∷◌, ◌∙◌, List, ℕ, [], None, ap, arith, length, map, sym}
 use Rattle.gb_defs.specs.Column.{ColumnValue, fresh_column}
 use Rattle.gb_defs.specs.ColumnType.{Categorical, Flat}
 use Rattle.gb_defs.specs.Slot.{Slot}
@@ -6,8 +6,9 @@ use Rattle.gb_defs.specs.Table.{coded_slot, with_text}
 use Rattle.gb_base.specs.DataType.{ordering_of}
 use Rattle.gb_base.specs.PlSmallStr.{name_of}
 use Rattle.gb_values.specs.Array.{text_slot}
-use Rattle.gb_logical.specs.CategoricalBuilder.{decoded_slot, with_slot}
-use Rattle.gb_logical.proofs.BuilderLemmas.{decoded_more, fits_one, so_far_more}
+use Rattle.gb_cols.specs.Column.{pushed}
+use Rattle.gb_logical.specs.CategoricalBuilder.{decoded_slot}
+use Rattle.gb_logical.proofs.BuilderLemmas.{decoded_more, fits_one, pushed_fresh, so_far_more}
 use Rattle.gb_logical.proofs.CodingLemmas.{after_few}
 use Rattle.gb_logical.proofs.categorical.builder.CategoricalBuilder.push_text.Goals as goal
 
@@ -28,6 +29,9 @@ returns-clause-ok c =
     let more = text_slot c.args.text ∷ [] in
     let known = c.in_ok-code_text.ensures.known ∙ ap (λ (ts : List (List ℕ)). with_text ts (text_slot c.args.text)) c.replace-known.ensures.value in
     let codes = c.in_ok-code_text.ensures.codes ∙ ap (λ (cs : List Slot). cs ++ map (coded_slot c.code_text.new.known) more) c.replace-codes.ensures.value in
-    ap (fresh_column (name_of c.self.inside.name) (Flat (Categorical None (ordering_of c.self.inside.ordering))))
-    (decoded_more c.self.invariant more (fits_one c.args.text c.requires.utf8) c.code_text.new.known c.code_text.new.codes known codes)
-    ∙ ap (λ (v : ColumnValue). with_slot v (text_slot c.args.text)) c.self.view_is
+    let name = name_of c.self.inside.name in
+    let dtype = Flat (Categorical None (ordering_of c.self.inside.ordering)) in
+    let before = map (decoded_slot c.self.inside.known) c.self.inside.codes in
+    ap (fresh_column name dtype) (decoded_more c.self.invariant more (fits_one c.args.text c.requires.utf8) c.code_text.new.known c.code_text.new.codes known codes)
+    ∙ sym (pushed_fresh name dtype before (text_slot c.args.text))
+    ∙ ap (λ (v : ColumnValue). pushed v (text_slot c.args.text)) c.self.view_is
