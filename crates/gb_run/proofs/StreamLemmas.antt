@@ -394,3 +394,17 @@ streamed_start names null_word limit first left after read now start none held k
     let told = told_held limit first first 0 none (rw empty (told_none limit first)) read held left f few in
     let here = streamed_first names null_word (fields_of start.header) limit first left read kept start.columns.items start held told started refl refl kept_is in
     streamed_more names null_word (fields_of start.header) limit first left read kept start.columns.items here now more after g fewer
+
+-- the same with columns in other chunks
+pub streamed_as : (names : List (List ℕ)) (null_word : List ℕ) (header : List (List ℕ)) (limit : ℕ) (first left : Option (List ℕ)) (read : ℕ) (held : List ℕ) (columns grown : List Building)
+    → map in_one_chunk grown ≡ map in_one_chunk columns → IsStreamed names null_word header limit first left read held columns → IsStreamed names null_word header limit first left read held grown
+streamed_as names null_word header limit first left read held columns grown e s =
+    record {
+      bytes = s.bytes;
+      told = s.told;
+      counted = s.counted;
+      within = s.within;
+      long = s.long;
+      some = s.some;
+      front = record { rest = s.front.rest; headed = s.front.headed; part = rw e s.front.part; behind = s.front.behind };
+    }

@@ -1,5 +1,5 @@
 -- A reader and the columns of what it has read.
-use Rattle.std.proofs.Common.{◌≡◌, ℕ, ◌+◌, ◌≤◌, true, false, inr, List, [], ◌∷◌, ◌++◌, length, refl, sym, ◌∙◌, ap, Some, None, Ok, Err, All, Bor}
+use Rattle.std.proofs.Common.{◌≡◌, ℕ, ◌+◌, ◌≤◌, true, false, inr, List, [], ◌∷◌, ◌++◌, length, map, refl, sym, ◌∙◌, ap, Some, None, Ok, Err, All, Bor}
 use Rattle.csv.specs.declared.parser.State.{State}
 use Rattle.csv.specs.declared.parser.State.TheVariants as st
 use Rattle.csv.specs.declared.reader.Reader.{Reader}
@@ -12,7 +12,7 @@ use Rattle.gb_defs.specs.Table.{TableFault, NoHeader, table}
 use Rattle.std.specs.List.{filter_map}
 use Rattle.gb_defs.specs.Column.{IsFrame}
 use Rattle.gb_run.specs.Asked.{asked_table, is_asked}
-use Rattle.gb_run.specs.Building.{Building, IsRoomy, IsWhole, read_if_kept}
+use Rattle.gb_run.specs.Building.{Building, IsRoomy, IsWhole, in_one_chunk, read_if_kept}
 use Rattle.gb_run.specs.Table.{GivesRecords, HasRecordsOf, columns_with, columns_of_header, left_of}
 use Rattle.gb_run.specs.Taking.{IsTaking}
 use Rattle.gb_run.proofs.ReadingLemmas.{no_header, header_bad, reading_header, reading_more, reading_bad, reading_end, reading_frame, reading_roomy, reading_whole}
@@ -60,6 +60,11 @@ module _ (names : List (List ℕ)) (null_word bytes : List ℕ) where
         source = reached.1;
         reading = reading_header names null_word bytes header columns b.state reached.0 reached.2 e;
       }
+
+  -- the same with columns in other chunks
+  pub taking_as : (row : ℕ) (columns grown : List Building) (a : Reader (Bor (List ℕ))) → map in_one_chunk grown ≡ map in_one_chunk columns
+      → IsTaking names null_word bytes row columns a → IsTaking names null_word bytes row grown a
+  taking_as row columns grown a e t = record { gives = t.gives; left = t.left; source = t.source; reading = record t.reading { columns_are = e ∙ t.reading.columns_are } }
 
   -- ---- the records below it
 

@@ -5,6 +5,7 @@ pub mod FaultText
 pub mod Folds
 pub mod GroupPart
 pub mod Grouping
+pub mod Grown
 pub mod Head
 pub mod Job
 pub mod Part

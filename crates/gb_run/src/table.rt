@@ -4,6 +4,7 @@
 pub mod blocks;
 mod builder;
 mod cell;
+pub mod grown;
 mod header;
 mod jobs;
 mod lines;
@@ -26,7 +27,7 @@ ghost use Rattle.csv.specs.Reading.{ReadRecord};
 ghost use Rattle.csv.specs.Records.{AllText, fields_of};
 
 use crate::status::{TableError, TableFault};
-use crate::table::builder::ColumnBuilder;
+use crate::table::grown::{GrownColumn, grown_columns};
 use crate::table::header::columns_of_header;
 use crate::table::lines::count_parts;
 use crate::table::plain::plain_table;
@@ -72,7 +73,7 @@ pub fn only_memory<T>(called: PolarsResult<T>) -> Result<T, AllocError>
 }
 
 // The column of a builder behind those before, where its slots were kept.
-fn push_finished(columns: &mut Vec<Series>, builder: ColumnBuilder) -> Result<(), AllocError>
+fn push_finished(columns: &mut Vec<Series>, builder: GrownColumn) -> Result<(), AllocError>
     requires { IsWhole builder }
     ensures { let kept = cons_option (read_if_kept builder) [] in
         OnOk result (read_in columns.new.items ≡ read_in columns.old.items ++ kept) }
@@ -87,7 +88,7 @@ fn push_finished(columns: &mut Vec<Series>, builder: ColumnBuilder) -> Result<()
 }
 
 // The columns whose slots were kept.
-fn finished(builders: Vec<ColumnBuilder>) -> Result<Vec<Series>, AllocError>
+fn finished(builders: Vec<GrownColumn>) -> Result<Vec<Series>, AllocError>
     requires { All IsWhole builders.items }
     ensures { let kept = filter_map read_if_kept builders.items in
         IfOk result (λ columns. read_in columns.items ≡ kept) }
@@ -100,7 +101,7 @@ fn finished(builders: Vec<ColumnBuilder>) -> Result<Vec<Series>, AllocError>
 }
 
 // The frame of the columns whose slots were kept. They have one length and different names.
-fn frame_of(builders: Vec<ColumnBuilder>) -> Result<DataFrame, AllocError>
+fn frame_of(builders: Vec<GrownColumn>) -> Result<DataFrame, AllocError>
     requires whole { All IsWhole builders.items }
     requires frame { IsFrame (filter_map read_if_kept builders.items) }
     ensures { IfOk result (λ frame. map rechunked frame ≡ filter_map read_if_kept builders.items) }
@@ -170,7 +171,7 @@ fn is_ascii(fields: &ByteRecord) -> bool
 // another number of fields than columns, or a cell that does not read. After a fault some columns may
 // have a slot more.
 fn push_record(
-    columns: &mut [ColumnBuilder],
+    columns: &mut [GrownColumn],
     fields: &ByteRecord,
     row: u64,
     null_word: &str,
@@ -218,7 +219,8 @@ pub fn csv_table(
         return Err(TableError::Fault(TableFault::NoHeader));
     }
     let columns = columns_of_header(alloc, &fields, names)?;
-    let frame = csv_rows(reader, columns, 1, null_word)?;
+    let grown = grown_columns(columns)?;
+    let frame = csv_rows(reader, grown, 1, null_word)?;
     Ok(frame)
 }
 
@@ -226,7 +228,7 @@ pub fn csv_table(
 // the reader has yet to give.
 fn csv_rows(
     mut reader: Reader<&[u8]>,
-    mut columns: Vec<ColumnBuilder>,
+    mut columns: Vec<GrownColumn>,
     rows: u64,
     null_word: &str,
 ) -> Result<DataFrame, TableError>
@@ -250,7 +252,7 @@ fn csv_rows(
 }
 
 // How many rows columns have read, by the first of them.
-fn count_rows(columns: &[ColumnBuilder]) -> usize
+fn count_rows(columns: &[GrownColumn]) -> usize
     ensures { result ≡ rows_read columns.now }
 {
     match columns.first() {
@@ -262,7 +264,7 @@ fn count_rows(columns: &[ColumnBuilder]) -> usize
 // The frame of the columns, and of all that is held behind what they have read, by `csv`.
 fn csv_behind(
     alloc: Global,
-    columns: Vec<ColumnBuilder>,
+    columns: Vec<GrownColumn>,
     mut held: Vec<u8>,
     null_word: &str,
 ) -> Result<DataFrame, TableError>

@@ -18,8 +18,9 @@ ghost use Rattle.gb_run.specs.declared.status.Status.TheVariants as status;
 use crate::status::{Status, TableError};
 use crate::streams::{Progress, fill, fill_all};
 use crate::table::builder::ColumnBuilder;
+use crate::table::grown::{GrownColumn, append_block, grown_columns};
 use crate::table::header::columns_of_header;
-use crate::table::lines::{Lines, append_columns, count_parts};
+use crate::table::lines::{Lines, count_parts};
 use crate::table::plain::{is_line_end, plain_header, without_mark};
 use crate::table::queue::read_queued;
 use crate::table::{csv_behind, frame_of, table_of};
@@ -151,7 +152,7 @@ fn push_block<R: Threads + Sync, S: Source>(
     limit: u64,
     reading: &Reading<'_>,
     header: &ByteRecord,
-    columns: &mut Vec<ColumnBuilder>,
+    columns: &mut Vec<GrownColumn>,
     window: &mut Window,
 ) -> Result<bool, Status>
     requires limit { limit ≤ 4294967295 }
@@ -206,7 +207,7 @@ fn push_block<R: Threads + Sync, S: Source>(
     };
     match found {
         Some(more) => {
-            append_columns(columns, more)?;
+            append_block(columns, more)?;
             swap(held, next);
             Ok(true)
         }
@@ -225,7 +226,7 @@ fn finish<R: Threads + Sync>(
     alloc: Global,
     reading: &Reading<'_>,
     header: &ByteRecord,
-    mut columns: Vec<ColumnBuilder>,
+    mut columns: Vec<GrownColumn>,
     held: Vec<u8>,
     ascii: bool,
 ) -> Result<DataFrame, TableError>
@@ -254,7 +255,7 @@ fn finish<R: Threads + Sync>(
     };
     match found {
         Some(more) => {
-            append_columns(&mut columns, more)?;
+            append_block(&mut columns, more)?;
             Ok(frame_of(columns)?)
         }
         None => Ok(csv_behind(alloc, columns, held, reading.null_word)?),
@@ -269,7 +270,7 @@ pub fn finish_all<R: Threads + Sync, S: Source>(
     limit: u64,
     reading: &Reading<'_>,
     header: &ByteRecord,
-    columns: Vec<ColumnBuilder>,
+    columns: Vec<GrownColumn>,
     mut held: Vec<u8>,
     now: Progress,
 ) -> Result<DataFrame, Status>
@@ -294,7 +295,7 @@ fn read_in_turn<R: Threads + Sync, S: Source>(
     limit: u64,
     reading: &Reading<'_>,
     header: &ByteRecord,
-    mut columns: Vec<ColumnBuilder>,
+    mut columns: Vec<GrownColumn>,
     held: Vec<u8>,
     now: Progress,
 ) -> Result<DataFrame, Status>
@@ -340,7 +341,7 @@ fn read_on<R: Threads + Sync, S: Source>(
     limit: u64,
     reading: &Reading<'_>,
     header: &ByteRecord,
-    columns: Vec<ColumnBuilder>,
+    columns: Vec<GrownColumn>,
     held: Vec<u8>,
     now: Progress,
 ) -> Result<DataFrame, Status>
@@ -404,11 +405,10 @@ pub fn read_table<R: Threads + Sync, S: Source>(
         columns,
         lines,
     } = start;
+    let grown = grown_columns(columns)?;
     keep_from(&mut held, lines)?;
     let enough = reading.block.min(FIRST_BLOCK);
     let now = fill(source, &mut held, first.read, limit, enough)?;
-    let frame = read_on(
-        rt, alloc, source, limit, reading, &header, columns, held, now,
-    )?;
+    let frame = read_on(rt, alloc, source, limit, reading, &header, grown, held, now)?;
     Ok(frame)
 }

@@ -1,15 +1,16 @@
 //! A column while its cells are read. Categories are read as texts, which get their codes as a whole
 //! once all of them are there. Of a column that nobody asks for, cells are only checked.
 
-ghost use Rattle.std.specs.Prelude.{◌≡◌, ℕ, List, [], length, true, option_map, IfOk, OnErr, OnOk};
+ghost use Rattle.std.specs.Prelude.{◌≡◌, ℕ, List, [], length, true, option_map, IfErr, IfOk, OnErr, OnOk};
 ghost use Rattle.std.specs.Bool.{OnFalse, OnTrue};
 ghost use Rattle.std.specs.Str.{IsUtf8};
 ghost use Rattle.gb_defs.specs.Table.{Head};
-ghost use Rattle.gb_base.specs.DataType.{type_of};
+ghost use Rattle.gb_base.specs.DataType.{ordering_of, type_of};
 ghost use Rattle.gb_base.specs.PlSmallStr.{name_of};
 ghost use Rattle.gb_defs.specs.ColumnType.{text};
 ghost use Rattle.gb_run.specs.Builder.{IsNamed, IsOfWords, PassesDigits, PassesTexts, rechunked_of};
 ghost use Rattle.gb_run.specs.Building.{BuildsCell, IsRoomy, IsWhole, in_one_chunk, read_if_kept};
+ghost use Rattle.gb_run.specs.Grown.{KeepsCategories, categories_in};
 ghost use Rattle.gb_run.specs.Part.{HasFew, emptied, joined_to};
 ghost use Rattle.gb_run.specs.Plain.{AreFewDigits};
 ghost use Rattle.gb_run.specs.Table.{built_of};
@@ -310,6 +311,30 @@ impl ColumnBuilder {
             }
             (None, None) => self.cells.append(cells),
             _ => unreachable!(),
+        }
+    }
+
+    /// The texts of categories that are kept, and else the column as it was.
+    pub fn into_categories(self) -> Result<(StringChunked, CategoricalOrdering), ColumnBuilder>
+        ensures ok { IfOk result (λ r. self ≡ categories_in (ordering_of r.1) r.0) }
+        ensures typed { IfOk result (λ r. r.0.dtype ≡ text) }
+        ensures err { IfErr result (λ b. b ≡ self) }
+        ensures other { OnErr result (KeepsCategories self → ⊥) }
+    {
+        let ColumnBuilder {
+            cells,
+            checked,
+            passes_digits,
+            passes_texts,
+        } = self;
+        match (checked, cells) {
+            (None, Cells::Texts(texts, ordering)) => Ok((texts, ordering)),
+            (checked, cells) => Err(ColumnBuilder {
+                cells,
+                checked,
+                passes_digits,
+                passes_texts,
+            }),
         }
     }
 

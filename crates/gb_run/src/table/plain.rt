@@ -18,6 +18,7 @@ use crate::status::TableError;
 use crate::table::builder::ColumnBuilder;
 use crate::table::cell::{cell_of, digits_cell};
 use crate::table::frame_of;
+use crate::table::grown::grown_columns;
 use crate::table::lines::Lines;
 use csv::ByteRecord;
 use gb_series::frame::DataFrame;
@@ -164,5 +165,6 @@ pub fn plain_table<R: Threads + Sync>(
     let Some(columns) = lines.read_to(rt, alloc, text.len(), parts)? else {
         return Ok(None);
     };
-    Ok(Some(frame_of(columns)?))
+    let grown = grown_columns(columns)?;
+    Ok(Some(frame_of(grown)?))
 }

@@ -15,10 +15,9 @@ ghost use Rattle.gb_run.specs.declared.status.Status.TheVariants as status;
 use crate::status::Status;
 use crate::streams::{Progress, fill};
 use crate::table::blocks::{FIRST_BLOCK, Reading, finish_all, keep_from, last_line};
-use crate::table::builder::ColumnBuilder;
+use crate::table::grown::{GrownColumn, append_block};
 use crate::table::header::columns_of_header;
 use crate::table::jobs::{Block, Done, Job};
-use crate::table::lines::append_columns;
 use csv::ByteRecord;
 use gb_base::device::Source;
 use gb_series::frame::DataFrame;
@@ -69,7 +68,7 @@ fn put_back<R: Threads>(
 fn join_oldest<R: Threads>(
     rt: &R,
     ahead: &mut Ahead,
-    columns: &mut Vec<ColumnBuilder>,
+    columns: &mut Vec<GrownColumn>,
 ) -> Result<bool, AllocError>
     requires queue { IsSomeQueue ahead.old.jobs.items ahead.old.held.items columns.old.items }
     ensures stays { OnOk result (StaysQueue ahead.old.jobs.items ahead.old.held.items
@@ -86,7 +85,7 @@ fn join_oldest<R: Threads>(
     let found = found?;
     match found {
         Some(more) => {
-            append_columns(columns, more)?;
+            append_block(columns, more)?;
             ahead.spare = text;
             Ok(true)
         }
@@ -103,7 +102,7 @@ fn make_room<R: Threads>(
     rt: &R,
     workers: usize,
     ahead: &mut Ahead,
-    columns: &mut Vec<ColumnBuilder>,
+    columns: &mut Vec<GrownColumn>,
 ) -> Result<bool, AllocError>
     requires queue { IsSomeQueue ahead.old.jobs.items ahead.old.held.items columns.old.items }
     ensures stays { OnOk result (StaysQueue ahead.old.jobs.items ahead.old.held.items
@@ -123,7 +122,7 @@ fn make_room<R: Threads>(
 fn join_all<R: Threads>(
     rt: &R,
     ahead: &mut Ahead,
-    columns: &mut Vec<ColumnBuilder>,
+    columns: &mut Vec<GrownColumn>,
 ) -> Result<bool, AllocError>
     requires queue { IsSomeQueue ahead.old.jobs.items ahead.old.held.items columns.old.items }
     ensures stays { OnOk result (StaysQueue ahead.old.jobs.items ahead.old.held.items
@@ -148,7 +147,7 @@ fn join_all<R: Threads>(
 fn take_last<R: Threads>(
     rt: &R,
     ahead: &mut Ahead,
-    columns: &mut Vec<ColumnBuilder>,
+    columns: &mut Vec<GrownColumn>,
     done: Done,
 ) -> Result<bool, AllocError>
     requires last { IsSomeLast ahead.old.jobs.items done columns.old.items }
@@ -163,7 +162,7 @@ fn take_last<R: Threads>(
     let found = found?;
     match found {
         Some(more) => {
-            append_columns(columns, more)?;
+            append_block(columns, more)?;
             keep_from(&mut ahead.held, place)?;
             Ok(true)
         }
@@ -178,7 +177,7 @@ fn send_block<R: Threads>(
     alloc: Global,
     reading: &Reading<'_>,
     header: &ByteRecord,
-    columns: &mut Vec<ColumnBuilder>,
+    columns: &mut Vec<GrownColumn>,
     ahead: &mut Ahead,
     ascii: bool,
 ) -> Result<bool, AllocError>
@@ -228,7 +227,7 @@ fn turn<R: Threads>(
     alloc: Global,
     reading: &Reading<'_>,
     header: &ByteRecord,
-    columns: &mut Vec<ColumnBuilder>,
+    columns: &mut Vec<GrownColumn>,
     ahead: &mut Ahead,
     now: Progress,
 ) -> Result<bool, AllocError>
@@ -258,7 +257,7 @@ fn step<R: Threads, S: Source>(
     limit: u64,
     reading: &Reading<'_>,
     header: &ByteRecord,
-    columns: &mut Vec<ColumnBuilder>,
+    columns: &mut Vec<GrownColumn>,
     ahead: &mut Ahead,
     now: Progress,
 ) -> Result<(bool, Progress), Status>
@@ -318,7 +317,7 @@ fn read_ahead<R: Threads, S: Source>(
     limit: u64,
     reading: &Reading<'_>,
     header: &ByteRecord,
-    columns: &mut Vec<ColumnBuilder>,
+    columns: &mut Vec<GrownColumn>,
     ahead: &mut Ahead,
     now: Progress,
 ) -> Result<Progress, Status>
@@ -377,7 +376,7 @@ pub fn read_queued<R: Threads + Sync, S: Source>(
     limit: u64,
     reading: &Reading<'_>,
     header: &ByteRecord,
-    mut columns: Vec<ColumnBuilder>,
+    mut columns: Vec<GrownColumn>,
     held: Vec<u8>,
     now: Progress,
 ) -> Result<DataFrame, Status>

@@ -4,7 +4,7 @@ use Rattle.gb_run.specs.Asked.{is_asked, names_in}
 use Rattle.gb_run.specs.Table.{columns_of_header}
 use Rattle.gb_defs.specs.Table.{table}
 use Rattle.gb_run.proofs.ReadingLemmas.{refused_too}
-use Rattle.gb_run.proofs.TakingLemmas.{taking_none, taking_no_columns, taking_header}
+use Rattle.gb_run.proofs.TakingLemmas.{taking_as, taking_none, taking_no_columns, taking_header}
 use Rattle.gb_run.proofs.table.csv_table.Goals as goal
 
 pub read_record-requires : goal.read_record-requires
@@ -32,17 +32,18 @@ csv_rows-requires c =
       names = names_in c.args.names.now;
       bytes = c.args.bytes.now;
       few = c.requires;
-      taking = taking_header (names_in c.args.names.now) c.args.null_word.now c.args.bytes.now a.result c.read_record.new.reader a.ensures (fields_of c.read_record.new.fields) read c.in_ok-found.ensures.gives
-          c.in_ok-columns.columns.items c.in_ok-columns.ensures.ok;
+      taking = taking_as (names_in c.args.names.now) c.args.null_word.now c.args.bytes.now 1 c.in_ok-columns.columns.items c.in_ok-grown.grown.items c.read_record.new.reader c.in_ok-grown.ensures
+          (taking_header (names_in c.args.names.now) c.args.null_word.now c.args.bytes.now a.result c.read_record.new.reader a.ensures (fields_of c.read_record.new.fields) read c.in_ok-found.ensures.gives
+          c.in_ok-columns.columns.items c.in_ok-columns.ensures.ok);
     }
 
 pub returns-in_err-frame-clause-err : goal.returns-in_err-frame-clause-err
 returns-in_err-frame-clause-err c =
     let a = c.reader_of-reader in
     let read = rw c.if-not-found.false at c.in_ok-found.ensures.read in
-    let taking =
-    taking_header (names_in c.args.names.now) c.args.null_word.now c.args.bytes.now a.result c.read_record.new.reader a.ensures (fields_of c.read_record.new.fields) read c.in_ok-found.ensures.gives
-    c.in_ok-columns.columns.items c.in_ok-columns.ensures.ok in
+    let taking = taking_as (names_in c.args.names.now) c.args.null_word.now c.args.bytes.now 1 c.in_ok-columns.columns.items c.in_ok-grown.grown.items c.read_record.new.reader c.in_ok-grown.ensures
+    (taking_header (names_in c.args.names.now) c.args.null_word.now c.args.bytes.now a.result c.read_record.new.reader a.ensures (fields_of c.read_record.new.fields) read c.in_ok-found.ensures.gives
+    c.in_ok-columns.columns.items c.in_ok-columns.ensures.ok) in
     let p = err_from_is_err_and c.from_residual-in_err-frame.result c.from_residual-in_err-frame.ensures.1 in
     rw (p.1, p.2) (c.in_err-frame.ensures.err (names_in c.args.names.now) c.args.bytes.now taking)
 
@@ -50,7 +51,7 @@ pub returns-clause-ok : goal.returns-clause-ok
 returns-clause-ok c =
     let a = c.reader_of-reader in
     let read = rw c.if-not-found.false at c.in_ok-found.ensures.read in
-    let taking =
-    taking_header (names_in c.args.names.now) c.args.null_word.now c.args.bytes.now a.result c.read_record.new.reader a.ensures (fields_of c.read_record.new.fields) read c.in_ok-found.ensures.gives
-    c.in_ok-columns.columns.items c.in_ok-columns.ensures.ok in
+    let taking = taking_as (names_in c.args.names.now) c.args.null_word.now c.args.bytes.now 1 c.in_ok-columns.columns.items c.in_ok-grown.grown.items c.read_record.new.reader c.in_ok-grown.ensures
+    (taking_header (names_in c.args.names.now) c.args.null_word.now c.args.bytes.now a.result c.read_record.new.reader a.ensures (fields_of c.read_record.new.fields) read c.in_ok-found.ensures.gives
+    c.in_ok-columns.columns.items c.in_ok-columns.ensures.ok) in
     c.in_ok-frame.ensures.ok (names_in c.args.names.now) c.args.bytes.now taking

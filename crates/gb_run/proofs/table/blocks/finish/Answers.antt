@@ -11,21 +11,21 @@ read_to-requires-clause-few g c κs within =
     let r = c.args.reading.now in
     omega (arith, ap length c.as_slice.ensures.value, held_few (names_in r.names.now) r.null_word.now (fields_of c.args.header.now) c.requires.few.bytes c.args.held.items c.args.columns.items c.requires.few.front c.requires.few.few)
 
-pub append_columns-requires-clause-alike : goal.append_columns-requires-clause-alike
-append_columns-requires-clause-alike g c =
+pub append_block-requires-clause-alike : goal.append_block-requires-clause-alike
+append_block-requires-clause-alike g c =
     let r = c.args.reading.now in
     let held = c.args.held.items in
     let gone = drop_all (length held) held (omega arith) in
     let part = rw (c.in-Some.is, c.as_slice.ensures.value, gone) at c.in-Ok.ensures.ok in
     front_alike (names_in r.names.now) r.null_word.now (fields_of c.args.header.now) c.requires.few.bytes held c.args.columns.items c.requires.few.front [] c.in-Some.more.items part
 
-pub append_columns-requires-clause-few : goal.append_columns-requires-clause-few
-append_columns-requires-clause-few g c =
+pub append_block-requires-clause-few : goal.append_block-requires-clause-few
+append_block-requires-clause-few g c =
     let r = c.args.reading.now in
     front_has_few (names_in r.names.now) r.null_word.now (fields_of c.args.header.now) c.requires.few.bytes c.args.held.items c.args.columns.items c.requires.few.front c.requires.few.few
 
-pub append_columns-requires-clause-few_more : goal.append_columns-requires-clause-few_more
-append_columns-requires-clause-few_more g c =
+pub append_block-requires-clause-few_more : goal.append_block-requires-clause-few_more
+append_block-requires-clause-few_more g c =
     let r = c.args.reading.now in
     let held = c.args.held.items in
     let gone = drop_all (length held) held (omega arith) in
@@ -40,8 +40,8 @@ frame_of-requires-clause-whole g c =
     let part = rw (c.in-Some.is, c.as_slice.ensures.value, gone) at c.in-Ok.ensures.ok in
     let front =
     front_join (names_in r.names.now) r.null_word.now (fields_of c.args.header.now) c.requires.few.bytes held c.args.columns.items c.requires.few.front [] c.in-Some.more.items part
-    (record { count = length held; is = sym gone }) c.append_columns.new.columns.items c.in_ok-append_columns-in-Some.ensures in
-    all_whole (names_in r.names.now) r.null_word.now (fields_of c.args.header.now) c.requires.few.bytes c.append_columns.new.columns.items front c.requires.few.few
+    (record { count = length held; is = sym gone }) c.append_block.new.columns.items c.in_ok-append_block-in-Some.ensures in
+    all_whole (names_in r.names.now) r.null_word.now (fields_of c.args.header.now) c.requires.few.bytes c.append_block.new.columns.items front c.requires.few.few
 
 pub frame_of-requires-clause-frame : goal.frame_of-requires-clause-frame
 frame_of-requires-clause-frame g c =
@@ -51,8 +51,8 @@ frame_of-requires-clause-frame g c =
     let part = rw (c.in-Some.is, c.as_slice.ensures.value, gone) at c.in-Ok.ensures.ok in
     let front =
     front_join (names_in r.names.now) r.null_word.now (fields_of c.args.header.now) c.requires.few.bytes held c.args.columns.items c.requires.few.front [] c.in-Some.more.items part
-    (record { count = length held; is = sym gone }) c.append_columns.new.columns.items c.in_ok-append_columns-in-Some.ensures in
-    all_frame (names_in r.names.now) r.null_word.now (fields_of c.args.header.now) c.requires.few.bytes c.append_columns.new.columns.items front
+    (record { count = length held; is = sym gone }) c.append_block.new.columns.items c.in_ok-append_block-in-Some.ensures in
+    all_frame (names_in r.names.now) r.null_word.now (fields_of c.args.header.now) c.requires.few.bytes c.append_block.new.columns.items front
 
 pub returns-in_ok-frame_of-in-Some-clause-ok : goal.returns-in_ok-frame_of-in-Some-clause-ok
 returns-in_ok-frame_of-in-Some-clause-ok g c = λ bytes few before.
@@ -62,8 +62,8 @@ returns-in_ok-frame_of-in-Some-clause-ok g c = λ bytes few before.
     let part = rw (c.in-Some.is, c.as_slice.ensures.value, gone) at c.in-Ok.ensures.ok in
     let front =
     front_join (names_in r.names.now) r.null_word.now (fields_of c.args.header.now) bytes held c.args.columns.items before [] c.in-Some.more.items part
-    (record { count = length held; is = sym gone }) c.append_columns.new.columns.items c.in_ok-append_columns-in-Some.ensures in
-    all_read (names_in r.names.now) r.null_word.now (fields_of c.args.header.now) bytes c.append_columns.new.columns.items front ∙ ap (λ f. Ok f) (sym c.in_ok-frame_of-in-Some.ensures)
+    (record { count = length held; is = sym gone }) c.append_block.new.columns.items c.in_ok-append_block-in-Some.ensures in
+    all_read (names_in r.names.now) r.null_word.now (fields_of c.args.header.now) bytes c.append_block.new.columns.items front ∙ ap (λ f. Ok f) (sym c.in_ok-frame_of-in-Some.ensures)
 
 pub returns-in_ok-csv_behind-in-None-clause-ok : goal.returns-in_ok-csv_behind-in-None-clause-ok
 returns-in_ok-csv_behind-in-None-clause-ok g c = λ bytes few front.

@@ -33,8 +33,8 @@ frame_of-requires-clause-whole g c =
     let begins = rw c.in-Some.is at c.in_ok-header.ensures in
     let some : 0 < length c.without_mark-text.result.now = grind (arith, nat_tests, c.if-is_empty.ensures) in
     let h = headed bytes c.without_mark-text.result.now (fields_of c.in-Some.header) c.in-Some.text.now c.without_mark-text.ensures some c.if-is_line_end.ensures.no begins in
-    let part = rw c.in-Some-2.is at c.in_ok-columns.ensures.ok in
-    plain_whole (names_in c.args.names.now) c.args.null_word.now bytes (fields_of c.in-Some.header) c.in-Some.text.now h c.in-Some-2.columns.items part c.requires.few
+    let part = rw (← c.in_ok-grown.ensures) at (rw c.in-Some-2.is at c.in_ok-columns.ensures.ok) in
+    plain_whole (names_in c.args.names.now) c.args.null_word.now bytes (fields_of c.in-Some.header) c.in-Some.text.now h c.in_ok-grown.grown.items part c.requires.few
 
 pub frame_of-requires-clause-frame : goal.frame_of-requires-clause-frame
 frame_of-requires-clause-frame g c =
@@ -42,8 +42,8 @@ frame_of-requires-clause-frame g c =
     let begins = rw c.in-Some.is at c.in_ok-header.ensures in
     let some : 0 < length c.without_mark-text.result.now = grind (arith, nat_tests, c.if-is_empty.ensures) in
     let h = headed bytes c.without_mark-text.result.now (fields_of c.in-Some.header) c.in-Some.text.now c.without_mark-text.ensures some c.if-is_line_end.ensures.no begins in
-    let part = rw c.in-Some-2.is at c.in_ok-columns.ensures.ok in
-    plain_frame (names_in c.args.names.now) c.args.null_word.now bytes (fields_of c.in-Some.header) c.in-Some.text.now h c.in-Some-2.columns.items part
+    let part = rw (← c.in_ok-grown.ensures) at (rw c.in-Some-2.is at c.in_ok-columns.ensures.ok) in
+    plain_frame (names_in c.args.names.now) c.args.null_word.now bytes (fields_of c.in-Some.header) c.in-Some.text.now h c.in_ok-grown.grown.items part
 
 pub returns-clause-ok : goal.returns-clause-ok
 returns-clause-ok g c =
@@ -51,5 +51,5 @@ returns-clause-ok g c =
     let begins = rw c.in-Some.is at c.in_ok-header.ensures in
     let some : 0 < length c.without_mark-text.result.now = grind (arith, nat_tests, c.if-is_empty.ensures) in
     let h = headed bytes c.without_mark-text.result.now (fields_of c.in-Some.header) c.in-Some.text.now c.without_mark-text.ensures some c.if-is_line_end.ensures.no begins in
-    let part = rw c.in-Some-2.is at c.in_ok-columns.ensures.ok in
-    plain_end (names_in c.args.names.now) c.args.null_word.now bytes (fields_of c.in-Some.header) c.in-Some.text.now h c.in-Some-2.columns.items part ∙ ap (λ f. Ok f) (sym c.in_ok-frame_of.ensures)
+    let part = rw (← c.in_ok-grown.ensures) at (rw c.in-Some-2.is at c.in_ok-columns.ensures.ok) in
+    plain_end (names_in c.args.names.now) c.args.null_word.now bytes (fields_of c.in-Some.header) c.in-Some.text.now h c.in_ok-grown.grown.items part ∙ ap (λ f. Ok f) (sym c.in_ok-frame_of.ensures)
