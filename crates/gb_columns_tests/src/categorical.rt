@@ -44,6 +44,24 @@ fn built(alloc: Global) -> PolarsResult<CategoricalChunked> {
     builder.finish()
 }
 
+// Whether a cell reads as a text or as null, which gets its code.
+fn takes(builder: &mut CategoricalBuilder, cell: &[u8]) -> PolarsResult<bool> {
+    if builder.len() > 99 {
+        return Err(PolarsError::NoMemory);
+    }
+    Ok(builder.push_cell(cell, false, "null")?)
+}
+
+// The cells x, null, one that is no text, and x, as categories.
+fn read(alloc: Global) -> PolarsResult<CategoricalChunked> {
+    let mut builder = CategoricalBuilder::new(alloc, name_of(alloc)?, CategoricalOrdering::Lexical);
+    let texts = takes(&mut builder, b"x")? && takes(&mut builder, b"null")?;
+    if !texts || takes(&mut builder, b"\xff")? || !takes(&mut builder, b"x")? {
+        return Err(PolarsError::NoMemory);
+    }
+    builder.finish()
+}
+
 // Prints each slot, and a stroke behind it.
 fn print(column: &CategoricalChunked, to: &mut Vec<u8>) -> PolarsResult<()> {
     for row in 0..column.len() {
@@ -80,6 +98,14 @@ fn texts_come_twice(rt: HostRuntime) -> Result<(), Fail> {
     let mut text = Vec::new(rt.alloc());
     print(&built(rt.alloc())?, &mut text)?;
     assert_eq!(rt; text.as_slice(), b"x|y|x|y|".as_slice());
+    Ok(())
+}
+
+#[test]
+fn cells_get_codes(rt: HostRuntime) -> Result<(), Fail> {
+    let mut text = Vec::new(rt.alloc());
+    print(&read(rt.alloc())?, &mut text)?;
+    assert_eq!(rt; text.as_slice(), b"x|null|x|".as_slice());
     Ok(())
 }
 

@@ -44,6 +44,11 @@ module _ (names : List (List ℕ)) (null_word bytes : List ℕ) where
 
   -- ---- the header
 
+  pub header_whole : (header : List (List ℕ)) (columns : List Building) → columns_of_header (is_asked names) header ≡ Ok columns → All IsWhole columns
+  header_whole header columns e =
+      let p = ok_parts (λ heads. built_from (is_asked names) 0 heads []) (heads_of header) columns e in
+      rw p.2 (All-from_recursion IsWhole _ (whole_columns (is_asked names) 0 p.0 [] (omega arith)))
+
   table_at : (header : List (List ℕ)) (rows : List (List (List ℕ))) → records default_config (strip_bom bytes) ≡ header ∷ rows → table bytes null_word ≡ frame_by_heads null_word (heads_of header) rows
   unfolding table
   table_at header rows e = rw e

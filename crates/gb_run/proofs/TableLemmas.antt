@@ -16,6 +16,7 @@ use Rattle.gb_run.specs.Building.{IsRoomy, IsWhole, kept_slot, read_if_kept, tak
 use Rattle.gb_run.specs.Part.{HasFew}
 use Rattle.gb_run.specs.Table.{built_from, built_of, head_in, taken_each}
 use Rattle.gb_logical.proofs.BuilderLemmas.{pushed_fresh}
+use Rattle.gb_run.proofs.BuilderLemmas.{categories_rechunked}
 
 -- ---- columns whose cells were read
 
@@ -39,6 +40,12 @@ read_cases name (Flat (Enum texts ordering)) slots = inl refl
 read_cases name (ListOf t) slots = inl refl
 read_cases name (ArrayOf t width) slots = inl refl
 read_cases name (StructOf fs) slots = inl refl
+
+pub read_rechunked : (name : List ℕ) (t : ColumnType) (slots : List Slot) → rechunked (read_column name t slots) ≡ read_column name t slots
+read_rechunked name t slots = elim (read_cases name t slots) [
+  | inl same ↦ rw same refl
+  | inr codes ↦ rw codes.2 (categories_rechunked name codes.1 slots)
+]
 
 -- where cells read as slots, they are those of the column
 pub read_is_fresh : (name : List ℕ) (t : ColumnType) (slots : List Slot) → ReadsCells t → read_column name t slots ≡ fresh_column name t slots

@@ -1,16 +1,15 @@
 //! The columns of a table so far. Texts of categories get their codes block by block, so that no more texts are
 //! held than those of a block.
 
-ghost use Rattle.std.specs.Prelude.{◌≡◌, ◌++◌, IfOk, OnErr, OnOk, All, length, map, option_map, true};
-ghost use Rattle.std.specs.Bool.{OnFalse};
+ghost use Rattle.std.specs.Prelude.{◌≡◌, ◌++◌, All, IfOk, None, OnOk, length, map, option_map, true};
 ghost use Rattle.std.specs.Str.{IsUtf8};
 ghost use Rattle.gb_base.specs.DataType.{ordering_of};
 ghost use Rattle.gb_cols.specs.Column.{TakesCell};
 ghost use Rattle.gb_defs.specs.Column.{fresh_column};
-ghost use Rattle.gb_defs.specs.ColumnType.{text};
+ghost use Rattle.gb_defs.specs.ColumnType.{Categorical, Flat};
 ghost use Rattle.gb_run.specs.Builder.{rechunked_of};
 ghost use Rattle.gb_run.specs.Building.{BuildsCell, IsRoomy, IsWhole, in_one_chunk, read_if_kept};
-ghost use Rattle.gb_run.specs.Grown.{categories_in, kept_codes};
+ghost use Rattle.gb_run.specs.Grown.{kept_codes};
 ghost use Rattle.gb_run.specs.Part.{HasFew, emptied, joined, joined_to};
 
 use crate::table::builder::ColumnBuilder;
@@ -52,6 +51,7 @@ impl Model for GrownColumn {
 impl GrownColumn {
     /// The same column, its categories by their codes.
     pub fn new(column: ColumnBuilder) -> Result<GrownColumn, AllocError>
+        requires { IsWhole column }
         ensures { IfOk result (λ grown. in_one_chunk grown ≡ in_one_chunk column) }
     {
         match column.into_categories() {
@@ -128,9 +128,8 @@ fn code_texts(
     texts: &StringChunked,
     ordering: CategoricalOrdering,
 ) -> Result<CategoricalBuilder, AllocError>
-    requires { texts.now.dtype ≡ text }
-    ensures { let c = categories_in (ordering_of ordering) texts.now in
-        IfOk result (λ codes. in_one_chunk (kept_codes codes) ≡ in_one_chunk c) }
+    ensures { let dtype = Flat (Categorical None (ordering_of ordering)) in
+        IfOk result (λ codes. codes ≡ fresh_column texts.now.name dtype texts.now.slots) }
 {
     let name = only_memory(texts.name().try_clone())?;
     let mut codes = CategoricalBuilder::new(texts.allocator(), name, ordering);
@@ -179,12 +178,14 @@ fn append_categories(codes: &mut CategoricalBuilder, other: ColumnBuilder) -> Re
 
 /// The same columns, categories by their codes.
 pub fn grown_columns(columns: Vec<ColumnBuilder>) -> Result<Vec<GrownColumn>, AllocError>
+    requires { All IsWhole columns.items }
     ensures { IfOk result (λ all.
         map in_one_chunk all.items ≡ map in_one_chunk columns.items) }
 {
     let mut all = Vec::with_capacity(*columns.allocator(), columns.len())?;
     for column in columns {
-        all.push(GrownColumn::new(column)?)?;
+        let grown = GrownColumn::new(column)?;
+        all.push(grown)?;
     }
     Ok(all)
 }
