@@ -14,6 +14,7 @@ pub mod GroupingLemmas
 pub mod HeadLemmas
 pub mod HeaderLemmas
 pub mod LinesLemmas
+pub mod NearLemmas
 pub mod PartLemmas
 pub mod PartsLemmas
 pub mod PlainLemmas

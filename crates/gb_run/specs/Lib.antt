@@ -8,6 +8,7 @@ pub mod Grouping
 pub mod Grown
 pub mod Head
 pub mod Job
+pub mod Near
 pub mod Part
 pub mod Plain
 pub mod Queue

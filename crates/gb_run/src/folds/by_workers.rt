@@ -12,8 +12,8 @@ ghost use Rattle.gb_run.specs.Folds.{AreGroupsOf, IsAggregateOf, agg_unfit, join
 ghost use Rattle.gb_run.specs.GroupPart.{part_from};
 ghost use Rattle.gb_run.specs.Request.{agg_of};
 
-use crate::folds::aggregate;
 use crate::folds::group_part::GroupPart;
+use crate::folds::{aggregate, reads_chunks};
 use crate::words::Agg;
 use gb_base::error::PolarsResult;
 use gb_base::pool::Pool;
@@ -64,8 +64,8 @@ fn aggregate_whole<R: Threads + Sync>(
 }
 
 /// `aggregate` over all groups, by as many workers as the pool has where there are many rows. With one worker
-/// no thread is started. The rows of a group stand in all chunks of a column, and the chunk of a row is
-/// sought from the first on, so several chunks are put into one before.
+/// no thread is started. The rows of a group stand in all chunks of a column, so where there are many groups
+/// several chunks are put into one before.
 pub fn aggregate_all<R: Threads + Sync>(
     rt: &R,
     alloc: Global,
@@ -81,7 +81,8 @@ pub fn aggregate_all<R: Threads + Sync>(
         (Some (value_of column.now)) (lists_in (groups_of groups.now))) }
     ensures err { IfErr result (λ e. Explains e (agg_unfit agg.now (value_of column.now))) }
 {
-    if column.n_chunks() == 1 {
+    let chunks = column.n_chunks();
+    if chunks == 1 || reads_chunks(agg, chunks, column.len(), groups.len()) {
         return aggregate_whole(rt, alloc, column, agg, groups, pool);
     }
     let whole = column.rechunk()?;

@@ -11,6 +11,7 @@ ghost use Rattle.gb_values.specs.Array.{native_slot};
 ghost use Rattle.gb_series.specs.Series.{value_of};
 ghost use Rattle.gb_run.specs.Folds.{fold_in, rows_fold};
 
+use crate::folds::near_chunk::NearChunk;
 use gb_cols::boolean::BooleanChunked;
 use gb_cols::chunked::ChunkedArray;
 use gb_cols::series_trait::SeriesTrait;
@@ -218,9 +219,11 @@ fn sum_at<T: PolarsNumericType, R: GroupRows>(
     ensures { let slots = valid (picked column.now.slots (R.rows rows.now)) in
         T.Native.number result ≡ wrap (Flat T.Native.flat) (total slots) }
 {
+    let mut near = NearChunk::new(column);
     let mut sum = T::Native::zero();
     for place in 0..rows.count() {
-        sum = with_slot(sum, column.get(rows.row_at(place)));
+        let (chunk, at) = near.locate(rows.row_at(place));
+        sum = with_slot(sum, chunk.get(at));
     }
     sum
 }
@@ -243,9 +246,11 @@ fn trues_at<R: GroupRows>(column: &BooleanChunked, rows: &R) -> u32
     ensures { let slots = valid (picked column.now.slots (R.rows rows.now)) in
         pos result ≡ wrap (Flat Boolean) (total slots) }
 {
+    let mut near = NearChunk::new(column);
     let mut sum = 0;
     for place in 0..rows.count() {
-        sum = with_flag(sum, column.get(rows.row_at(place)));
+        let (chunk, at) = near.locate(rows.row_at(place));
+        sum = with_flag(sum, chunk.get(at));
     }
     sum
 }

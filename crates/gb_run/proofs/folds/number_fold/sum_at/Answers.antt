@@ -12,6 +12,11 @@ loop-place-preserved g c =
     let slots = c.args.column.now.slots in
     let rows = g.R.GroupRows.rows c.args.rows.now in
     let before = picked slots (take c.loop-place.place rows) in
-    sum_next g.T.Native.Native.number dtype _ c.loop-place.sum c.with_slot-sum.result before c.with_slot-sum.ensures c.loop-place.invariant
-    ∙ ap (λ (s : Slot). wrap dtype (total (valid (before ++ s ∷ [])))) (c.get.ensures ∙ ap (slot_at slots) c.row_at.ensures)
-    ∙ ap (λ ss. wrap dtype (total (valid ss))) (sym (picked_more slots rows c.loop-place.place (omega arith)))
+    let same = c.loop-place.invariant.same in
+    let slot = c.get.ensures ∙ c.locate.ensures.slot ∙ ap (λ ss. slot_at ss c.row_at.result) same ∙ ap (slot_at slots) c.row_at.ensures in
+    record {
+      same = c.locate.ensures.same ∙ same;
+      sum = sum_next g.T.Native.Native.number dtype _ c.loop-place.sum c.with_slot-sum.result before c.with_slot-sum.ensures c.loop-place.invariant.sum
+          ∙ ap (λ (s : Slot). wrap dtype (total (valid (before ++ s ∷ [])))) slot
+          ∙ ap (λ ss. wrap dtype (total (valid ss))) (sym (picked_more slots rows c.loop-place.place (omega arith)));
+    }
