@@ -1,8 +1,8 @@
 -- Where the chunks of a column stand.
-use Rattle.std.proofs.Common.{◌≡◌, ℕ, ◌+◌, ◌<◌, ◌≤◌, List, ◌++◌, length, get_or, sym, ◌∙◌, ap, arith}
-use Rattle.std.proofs.lemmas.List.{get_or-append-add, get_or_append_left, length-append}
+use Rattle.std.proofs.Common.{◌≡◌, ℕ, ◌+◌, ◌<◌, ◌≤◌, List, ◌++◌, length, get_or, sym, ◌∙◌, ap}
+use Rattle.std.proofs.lemmas.List.{get_or-append-add, get_or_append_left}
 use Rattle.gb_defs.specs.Slot.{Slot, Nil, slot_at}
-use Rattle.gb_cols.proofs.ChunkedLemmas.{before_all, before_chunk, from_chunk, front_all, front_slots, slots_around}
+use Rattle.gb_cols.proofs.ChunkedLemmas.{before_chunk, from_chunk, front_all, front_slots, slots_around}
 use Rattle.gb_run.specs.Near.{StandsAt, slots_in_chunks}
 
 pub last_stands : (earlier : List (List Slot)) (last : List Slot) (i start : ℕ) → length earlier ≤ i → start ≡ before_chunk earlier i → StandsAt (slots_in_chunks earlier last) start last
