@@ -29,6 +29,16 @@ all_members n = record {
       rw (get_or-range_with_len 0 n k 0 here, get_or-range_with_len 0 n (k + 1) 0 next) (omega arith);
 }
 
+-- all rows, read by their places
+pub all_at : (n place : ℕ) → place < length (rows_below n) → (place < n) × (place ≡ get_or (rows_below n) place 0)
+all_at n place lt =
+    let low : place < n = omega (arith, lt, length-range_with_len 0 n) in
+    let same : place ≡ 0 + place = omega arith in
+    (low, same ∙ sym (get_or-range_with_len 0 n place 0 low))
+
+pub member_inside : (n : ℕ) (rows : List ℕ) (place row : ℕ) → AreMembers n rows → place < length rows → row ≡ get_or rows place 0 → row < n
+member_inside n rows place row m lt is = rw is (m.below place 0 lt)
+
 pub some_members : (n : ℕ) (test : ℕ → Bool) (rows : List ℕ) → AreMembers n rows → AreMembers n (filter test rows)
 some_members n test rows m = record {
   below = All-filter test (λ row. row < n) rows m.below;

@@ -1,5 +1,5 @@
 -- Rows and hashes by partitions.
-use Rattle.std.specs.Prelude.{◌≡◌, ℕ, ◌+◌, ◌<◌, ◌≤◌, ◌^◌, List, [], All, Vec, drop, filter, flat_map, get_or, length, map, take}
+use Rattle.std.specs.Prelude.{◌≡◌, ℕ, ◌<◌, List, [], All, Vec, drop, filter, flat_map, get_or, length, map, take}
 use Rattle.std.specs.List.{range_with_len}
 use Rattle.smallvec.specs.SmallVec.{SmallVec}
 use Rattle.gb_defs.specs.Groups.{AreMembers, HasRowNumbers}
@@ -8,11 +8,6 @@ use Rattle.gb_defs.specs.Partitions.{in_partition}
 use Rattle.gb_defs.specs.Rows.{Rows, AreHashes}
 use Rattle.gb_groups.specs.Groups.{lists_of, pairs_of}
 use Rattle.gb_paths.specs.Numbers.{groups_among, lists_by}
-
--- so many rows from `start` on are among the rows, whose numbers fit 64 bits
-pub record HasRows (rows : Rows) (start n : ℕ) : Type 0 where
-  pub within : start + n ≤ rows.count
-  pub fits : rows.count < 2 ^ 64
 
 -- the partition of each hash is one of the n
 abbrev pub AreWithin : ℕ → List ℕ → Type 0
@@ -30,10 +25,14 @@ rows_by_partition hash n rows = map (λ p. filter (in_partition hash n p) rows) 
 abbrev pub Lists : {A : Type 0} → ℕ → Vec (SmallVec ℕ) A → Type 0
 Lists n share = length share.items ≡ n
 
+-- the hashes of a share of the rows, its first and how many they are
+abbrev pub share_of : List ℕ → ℕ × ℕ → List ℕ
+share_of hashes share = take share.1 (drop share.0 hashes)
+
 -- the lists of the rows of a share by the n partitions of their hashes, which are among those of all rows
 pub record AreDealt (n : ℕ) (hashes : List ℕ) (share : ℕ × ℕ) (lists : List (SmallVec ℕ)) : Type 0 where
-  pub listed : lists_of lists ≡ lists_by (range_with_len share.0 share.1) (partitions_by n (take share.1 (drop share.0 hashes))) n
-  pub within : AreWithin n (take share.1 (drop share.0 hashes))
+  pub listed : lists_of lists ≡ lists_by (range_with_len share.0 share.1) (partitions_by n (share_of hashes share)) n
+  pub within : AreWithin n (share_of hashes share)
 
 -- the rows of a partition: those that each share lists of it, share after share
 abbrev pub list_joined : {A : Type 0} → List (Vec (SmallVec ℕ) A) → ℕ → List ℕ

@@ -6,8 +6,8 @@ ghost use Rattle.gb_defs.specs.Rows.{table_groups};
 ghost use Rattle.gb_base.specs.PlSmallStr.{IsNoMemory};
 ghost use Rattle.gb_groups.specs.GroupsType.{groups_of};
 
-use crate::row_groups::{all_rows, group_members};
-use crate::row_hashes::hash_rows;
+use crate::row_groups::{AllRows, group_members};
+use crate::row_hashes::AskedHashes;
 use gb_base::error::PolarsResult;
 use gb_groups::groups_idx::GroupsIdx;
 use gb_groups::groups_type::GroupsType;
@@ -31,9 +31,9 @@ pub fn group_by<R: KeyRows, L: Ledger>(
     ensures steps { OnOk result (steps.new ≡ steps.old + (R.rows rows.now).count) }
     ensures steps_at_most { steps.new ≤ steps.old + (R.rows rows.now).count }
 {
-    let hashes = hash_rows(alloc, rows)?;
-    let members = all_rows(alloc, rows.len())?;
-    let groups = group_members(alloc, rows, members.as_slice(), hashes.as_slice(), steps)?;
+    let members = AllRows::new(rows.len());
+    let hashes = AskedHashes { rows };
+    let groups = group_members(alloc, rows, &members, &hashes, steps)?;
     Ok(GroupsType::from(GroupsIdx::new(groups.first, groups.all, sorted)))
 }
 

@@ -1,7 +1,7 @@
 //! The groups of all or of some of the rows, by one table: first the number of each row's group, where
 //! groups are numbered in the order of their first rows, and from it the rows of each group.
 
-ghost use Rattle.std.specs.Prelude.{◌≡◌, ℕ, ◌+◌, ◌<◌, ◌≤◌, ◌^◌, length, zip, IfOk, IfErr, OnOk, slice_index};
+ghost use Rattle.std.specs.Prelude.{◌≡◌, ℕ, ◌+◌, ◌<◌, ◌≤◌, ◌^◌, length, zip, IfOk, IfErr, OnOk, List, slice_index};
 ghost use Rattle.std.specs.List.{All, AllZip};
 ghost use Rattle.std.specs.List.Sorted.{IsNonDecreasing};
 ghost use Rattle.gb_defs.specs.Classes.{rows_below};
@@ -11,6 +11,7 @@ ghost use Rattle.gb_base.specs.PlSmallStr.{IsNoMemory};
 ghost use Rattle.gb_groups.specs.Groups.{lists_of};
 ghost use Rattle.gb_paths.specs.Numbers.{AreEntries, IsRoomFor, counts_by, groups_among, lists_by, pairs_by};
 
+use crate::row_hashes::RowHashes;
 use gb_base::error::PolarsResult;
 use gb_base::nullable_idx::IdxSize;
 use gb_groups::groups_idx::IdxVec;
@@ -20,17 +21,67 @@ use smallvec::SmallVec;
 use std::alloc::{AllocError, Global};
 use std::sync::ledger::Ledger;
 
-/// All rows of so many.
-pub fn all_rows(alloc: Global, count: usize) -> Result<Vec<IdxSize>, AllocError>
-    requires { HasRowNumbers count }
-    ensures all { IfOk result (λ rows. rows.items ≡ rows_below count) }
-    ensures members { IfOk result (λ rows. AreMembers count rows.items) }
-{
-    let mut rows = Vec::with_capacity(alloc, count)?;
-    for row in 0..count {
-        rows.push_reserved(row as IdxSize);
+/// The rows that are grouped, by their places.
+pub trait Members {
+    // The rows, in order.
+    ghost listed: { Self → List ℕ };
+
+    fn len(&self) -> usize
+        ensures { result ≡ length (listed self.now) };
+
+    fn row_at(&self, place: usize) -> IdxSize
+        requires { place < length (listed self.now) }
+        ensures { result ≡ slice_index (listed self.now) place };
+}
+
+/// All rows of so many, of which no list is made.
+#[derive(Drop)]
+pub struct AllRows {
+    pub count: usize,
+    ghost few: { HasRowNumbers count },
+}
+
+impl AllRows {
+    pub fn new(count: usize) -> AllRows
+        requires { HasRowNumbers count }
+        ensures { result.count ≡ count }
+    {
+        AllRows { count }
     }
-    Ok(rows)
+}
+
+impl Members for AllRows {
+    ghost listed = { λ all. rows_below all.count };
+
+    #[inline(always)]
+    fn len(&self) -> usize {
+        self.count
+    }
+
+    #[inline(always)]
+    fn row_at(&self, place: usize) -> IdxSize {
+        place as IdxSize
+    }
+}
+
+/// The rows of a list.
+#[derive(Drop)]
+pub struct ListedRows<'a> {
+    pub rows: &'a [IdxSize],
+}
+
+impl<'a> Members for ListedRows<'a> {
+    ghost listed = { λ some. some.rows.now };
+
+    #[inline(always)]
+    fn len(&self) -> usize {
+        self.rows.len()
+    }
+
+    #[inline(always)]
+    fn row_at(&self, place: usize) -> IdxSize {
+        self.rows[place]
+    }
 }
 
 /// The first row of each group, and the number of each row's group. The table tells a group's number by
@@ -43,40 +94,41 @@ pub struct GroupNumbers<K> {
 }
 
 /// Numbers the groups of some of the rows by one table, in one step a row. The hashes are those of the
-/// rows from `start` on.
-pub fn number_groups<R: KeyRows, L: Ledger>(
+/// rows from the first on.
+pub fn number_groups<R: KeyRows, M: Members, H: RowHashes, L: Ledger>(
     alloc: Global,
     rows: &R,
-    members: &[IdxSize],
-    start: usize,
-    hashes: &[u64],
+    members: &M,
+    hashes: &H,
     steps: &mut Steps<L>,
 ) -> PolarsResult<GroupNumbers<R::Key>>
     requires few { HasRowNumbers (R.rows rows.now).count }
-    requires members { AreMembers (start + length hashes.now) members.now }
-    requires from { All (λ row. start ≤ row) members.now }
-    requires hashes { AreHashes (R.rows rows.now) start hashes.now }
+    requires members { AreMembers (length (H.hashes hashes.now)) (M.listed members.now) }
+    requires hashes { AreHashes (R.rows rows.now) 0 (H.hashes hashes.now) }
     ensures classes { IfOk result (λ found.
-        pairs_by members.now found.of_rows.items found.first.items
-        ≡ groups_among (R.rows rows.now) members.now) }
+        pairs_by (M.listed members.now) found.of_rows.items found.first.items
+        ≡ groups_among (R.rows rows.now) (M.listed members.now)) }
     ensures entries { IfOk result (λ found.
         AreEntries R.key_slot (R.rows rows.now) found.first.items found.table) }
     ensures ascend { IfOk result (λ found. IsNonDecreasing found.first.items) }
     ensures known { IfOk result (λ found.
         All (λ number. number < length found.first.items) found.of_rows.items) }
-    ensures each { IfOk result (λ found. length found.of_rows.items ≡ length members.now) }
+    ensures each { IfOk result (λ found.
+        length found.of_rows.items ≡ length (M.listed members.now)) }
     ensures err { IfErr result IsNoMemory }
-    ensures steps { OnOk result (steps.new ≡ steps.old + length members.now) }
-    ensures steps_at_most { steps.new ≤ steps.old + length members.now }
+    ensures steps { OnOk result (steps.new ≡ steps.old + length (M.listed members.now)) }
+    ensures steps_at_most { steps.new ≤ steps.old + length (M.listed members.now) }
 {
     let mut table: GroupTable<R::Key> = GroupTable::new(alloc)?;
     let mut first = Vec::new(alloc);
-    let mut of_rows = Vec::with_capacity(alloc, members.len())?;
-    for row in members {
-        let key = rows.key_at(*row as usize, steps);
-        let number = table.number_of(key, hashes[*row as usize - start])?;
+    let count = members.len();
+    let mut of_rows = Vec::with_capacity(alloc, count)?;
+    for place in 0..count {
+        let row = members.row_at(place);
+        let key = rows.key_at(row as usize, steps);
+        let number = table.number_of(key, hashes.hash_of(row as usize))?;
         if number as usize == first.len() {
-            first.push(*row)?;
+            first.push(row)?;
         }
         of_rows.push_reserved(number);
     }
@@ -88,16 +140,17 @@ pub fn number_groups<R: KeyRows, L: Ledger>(
 }
 
 /// The rows of each group, in their order.
-pub fn row_lists(
+pub fn row_lists<M: Members>(
     alloc: Global,
-    rows: &[IdxSize],
+    rows: &M,
     numbers: &[u32],
     groups: usize,
 ) -> Result<Vec<IdxVec>, AllocError>
-    requires each { length numbers.now ≡ length rows.now }
+    requires each { length numbers.now ≡ length (M.listed rows.now) }
     requires few { length numbers.now < 2 ^ 32 }
     requires known { All (λ number. number < groups) numbers.now }
-    ensures { IfOk result (λ lists. lists_of lists.items ≡ lists_by rows.now numbers.now groups) }
+    ensures { IfOk result (λ lists.
+        lists_of lists.items ≡ lists_by (M.listed rows.now) numbers.now groups) }
 {
     let counts = row_counts(alloc, numbers, groups)?;
     let mut lists = empty_lists(alloc, counts.as_slice())?;
@@ -140,14 +193,14 @@ pub(crate) fn empty_lists(alloc: Global, counts: &[IdxSize]) -> Result<Vec<IdxVe
 }
 
 // Puts each row into the list of its group.
-fn fill_lists(lists: &mut [IdxVec], rows: &[IdxSize], numbers: &[u32])
-    requires each { length numbers.now ≡ length rows.now }
+fn fill_lists<M: Members>(lists: &mut [IdxVec], rows: &M, numbers: &[u32])
+    requires each { length numbers.now ≡ length (M.listed rows.now) }
     requires known { All (λ number. number < length lists.old) numbers.now }
     requires room { AllZip IsRoomFor (counts_by numbers.now (length lists.old)) lists.old }
-    ensures { lists_of lists.new ≡ lists_by rows.now numbers.now (length lists.old) }
+    ensures { lists_of lists.new ≡ lists_by (M.listed rows.now) numbers.now (length lists.old) }
 {
     for (place, number) in numbers.iter().enumerate() {
-        lists[*number as usize].push_reserved(rows[place]);
+        lists[*number as usize].push_reserved(rows.row_at(place));
     }
 }
 
@@ -160,25 +213,25 @@ pub struct RowGroups {
 
 /// The groups of the members in the order of their first rows, in one step a member. The hashes are
 /// those of the rows from the first on.
-pub fn group_members<R: KeyRows, L: Ledger>(
+pub fn group_members<R: KeyRows, M: Members, H: RowHashes, L: Ledger>(
     alloc: Global,
     rows: &R,
-    members: &[IdxSize],
-    hashes: &[u64],
+    members: &M,
+    hashes: &H,
     steps: &mut Steps<L>,
 ) -> PolarsResult<RowGroups>
     requires few { HasRowNumbers (R.rows rows.now).count }
-    requires members { AreMembers (length hashes.now) members.now }
-    requires hashes { AreHashes (R.rows rows.now) 0 hashes.now }
+    requires members { AreMembers (length (H.hashes hashes.now)) (M.listed members.now) }
+    requires hashes { AreHashes (R.rows rows.now) 0 (H.hashes hashes.now) }
     ensures as_many { IfOk result (λ g. length g.first.items ≡ length g.all.items) }
     ensures classes { IfOk result (λ g. zip g.first.items (lists_of g.all.items)
-        ≡ groups_among (R.rows rows.now) members.now) }
+        ≡ groups_among (R.rows rows.now) (M.listed members.now)) }
     ensures ascend { IfOk result (λ g. IsNonDecreasing g.first.items) }
     ensures err { IfErr result IsNoMemory }
-    ensures steps { OnOk result (steps.new ≡ steps.old + length members.now) }
-    ensures steps_at_most { steps.new ≤ steps.old + length members.now }
+    ensures steps { OnOk result (steps.new ≡ steps.old + length (M.listed members.now)) }
+    ensures steps_at_most { steps.new ≤ steps.old + length (M.listed members.now) }
 {
-    let found = number_groups(alloc, rows, members, 0, hashes, steps)?;
+    let found = number_groups(alloc, rows, members, hashes, steps)?;
     let groups = found.first.len();
     let all = row_lists(alloc, members, found.of_rows.as_slice(), groups)?;
     Ok(RowGroups {

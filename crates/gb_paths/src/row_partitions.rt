@@ -1,7 +1,7 @@
 //! The rows of each partition of the hashes. The rows are dealt to the workers, and each worker lists
 //! those that it has by their partitions: the rows of a partition are its lists, share after share.
 
-ghost use Rattle.std.specs.Prelude.{◌≡◌, ℕ, ◌+◌, ◌<◌, ◌≤◌, All, length, take, drop, IfOk, IfErr, OnOk, slice_index};
+ghost use Rattle.std.specs.Prelude.{◌≡◌, ℕ, ◌+◌, ◌<◌, ◌≤◌, All, length, IfOk, IfErr, OnOk, slice_index};
 ghost use Rattle.std.specs.List.{AllZip, range_with_len};
 ghost use Rattle.gb_defs.specs.Classes.{rows_below};
 ghost use Rattle.gb_defs.specs.Groups.{AreMembers, HasRowNumbers};
@@ -9,10 +9,10 @@ ghost use Rattle.gb_defs.specs.Rows.{AreHashes, Rows};
 ghost use Rattle.gb_base.specs.PlSmallStr.{IsNoMemory};
 ghost use Rattle.gb_groups.specs.Groups.{lists_of};
 ghost use Rattle.gb_paths.specs.Numbers.{IsRoomFor, counts_by, lists_by};
-ghost use Rattle.gb_paths.specs.Partitions.{AreDealt, AreWithin, Lists, list_joined, lists_joined, partitions_by, rows_by_partition};
+ghost use Rattle.gb_paths.specs.Partitions.{AreDealt, AreWithin, Lists, list_joined, lists_joined, partitions_by, rows_by_partition, share_of};
 
 use crate::row_groups::empty_lists;
-use crate::row_hashes::FEW_ROWS;
+use crate::row_hashes::{CHUNK_ROWS, HashChunks, RowHashes};
 use gb_base::error::{PolarsError, PolarsResult};
 use gb_base::nullable_idx::IdxSize;
 use gb_base::pool::Pool;
@@ -27,7 +27,7 @@ use std::thread::Threads;
 pub fn partition_rows<T: Threads + Sync>(
     rt: &T,
     alloc: Global,
-    hashes: &[u64],
+    hashes: &HashChunks,
     n_partitions: usize,
     pool: &Pool,
 ) -> PolarsResult<Vec<Vec<IdxVec>>>
@@ -42,7 +42,7 @@ pub fn partition_rows<T: Threads + Sync>(
     ensures within { OnOk result (AreWithin n_partitions hashes.now) }
     ensures err { IfErr result IsNoMemory }
 {
-    let workers = pool.workers().min(hashes.len() / FEW_ROWS).max(1);
+    let workers = pool.workers().min(hashes.len() / CHUNK_ROWS).max(1);
     let part = |share: (usize, usize)|
         requires { 1 ≤ n_partitions × HasRowNumbers (length hashes.now)
             × share.0 + share.1 ≤ length hashes.now }
@@ -55,7 +55,7 @@ pub fn partition_rows<T: Threads + Sync>(
 // The lists of the rows of a share, its first and how many they are.
 fn partition_share(
     alloc: Global,
-    hashes: &[u64],
+    hashes: &HashChunks,
     share: (usize, usize),
     n_partitions: usize,
 ) -> PolarsResult<Vec<IdxVec>>
@@ -69,54 +69,64 @@ fn partition_share(
     if n_partitions > u32::MAX as usize {
         return Err(PolarsError::NoMemory);
     }
-    let (start, count) = share;
-    let mine = &hashes[start..start + count];
-    let counts = partition_counts(alloc, mine, n_partitions)?;
+    let counts = partition_counts(alloc, hashes, share, n_partitions)?;
     let mut lists = empty_lists(alloc, counts.as_slice())?;
-    fill_partitions(lists.as_mut_slice(), start, mine);
+    fill_partitions(lists.as_mut_slice(), hashes, share);
     Ok(lists)
 }
 
-// How many hashes each partition has.
-fn partition_counts(alloc: Global, hashes: &[u64], n: usize) -> Result<Vec<IdxSize>, AllocError>
+// How many hashes of a share each partition has.
+fn partition_counts(
+    alloc: Global,
+    hashes: &HashChunks,
+    share: (usize, usize),
+    n: usize,
+) -> Result<Vec<IdxSize>, AllocError>
     requires some { 1 ≤ n }
     requires few { HasRowNumbers (length hashes.now) }
+    requires inside { share.0 + share.1 ≤ length hashes.now }
     ensures counts { IfOk result (λ counts.
-        counts.items ≡ counts_by (partitions_by n hashes.now) n) }
-    ensures within { OnOk result (AreWithin n hashes.now) }
+        counts.items ≡ counts_by (partitions_by n (share_of hashes.now share)) n) }
+    ensures within { OnOk result (AreWithin n (share_of hashes.now share)) }
 {
     let mut counts = vec![in alloc; 0 as IdxSize; n]?;
-    count_partitions(counts.as_mut_slice(), hashes);
+    count_partitions(counts.as_mut_slice(), hashes, share);
     Ok(counts)
 }
 
-// Adds one to a partition's count for each of its hashes.
-fn count_partitions(counts: &mut [IdxSize], hashes: &[u64])
+// Adds one to a partition's count for each of its hashes in a share.
+fn count_partitions(counts: &mut [IdxSize], hashes: &HashChunks, share: (usize, usize))
     requires some { 1 ≤ length counts.old }
     requires few { HasRowNumbers (length hashes.now) }
+    requires inside { share.0 + share.1 ≤ length hashes.now }
     requires zero { (k : ℕ) → slice_index counts.old k ≡ 0 }
     ensures counts { let n = length counts.old in
-        counts.new ≡ counts_by (partitions_by n hashes.now) n }
-    ensures within { AreWithin (length counts.old) hashes.now }
+        counts.new ≡ counts_by (partitions_by n (share_of hashes.now share)) n }
+    ensures within { AreWithin (length counts.old) (share_of hashes.now share) }
 {
     let n = counts.len();
-    for hash in hashes {
-        counts[hash_to_partition(*hash, n)] += 1;
+    let (start, count) = share;
+    for place in 0..count {
+        counts[hash_to_partition(hashes.hash_of(start + place), n)] += 1;
     }
 }
 
-// Puts each row into the list of its hash's partition. The hashes are those of the rows from `start` on.
-fn fill_partitions(lists: &mut [IdxVec], start: usize, hashes: &[u64])
+// Puts each row of a share into the list of its hash's partition.
+fn fill_partitions(lists: &mut [IdxVec], hashes: &HashChunks, share: (usize, usize))
     requires some { 1 ≤ length lists.old }
-    requires few { HasRowNumbers (start + length hashes.now) }
+    requires few { HasRowNumbers (length hashes.now) }
+    requires inside { share.0 + share.1 ≤ length hashes.now }
     requires room { let n = length lists.old in
-        AllZip IsRoomFor (counts_by (partitions_by n hashes.now) n) lists.old }
-    ensures { let n = length lists.old in lists_of lists.new
-        ≡ lists_by (range_with_len start (length hashes.now)) (partitions_by n hashes.now) n }
+        AllZip IsRoomFor (counts_by (partitions_by n (share_of hashes.now share)) n) lists.old }
+    ensures { let n = length lists.old in let mine = share_of hashes.now share in lists_of lists.new
+        ≡ lists_by (range_with_len share.0 share.1) (partitions_by n mine) n }
 {
     let n = lists.len();
-    for (place, hash) in hashes.iter().enumerate() {
-        lists[hash_to_partition(*hash, n)].push_reserved((start + place) as IdxSize);
+    let (start, count) = share;
+    for place in 0..count {
+        let row = start + place;
+        let partition = hash_to_partition(hashes.hash_of(row), n);
+        lists[partition].push_reserved(row as IdxSize);
     }
 }
 

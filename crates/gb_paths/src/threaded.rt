@@ -11,8 +11,8 @@ ghost use Rattle.gb_hash.specs.Keys.{key_slots};
 ghost use Rattle.gb_paths.specs.Numbers.{groups_among};
 ghost use Rattle.gb_paths.specs.Partitions.{AreListed, groups_of_partitions, groups_of_parts, list_joined};
 
-use crate::row_groups::group_members;
-use crate::row_hashes::hash_rows_par;
+use crate::row_groups::{ListedRows, group_members};
+use crate::row_hashes::{HashChunks, hash_rows_par};
 use crate::row_partitions::{join_lists, partition_rows};
 use gb_base::device::Gate;
 use gb_base::error::PolarsResult;
@@ -49,7 +49,7 @@ pub fn group_by_threaded_iter<T: Threads + Sync, R: KeyRows, G: Gate + Sync>(
     ensures err { IfErr result IsNoMemory }
 {
     let hashes = hash_rows_par(rt, alloc, rows, pool)?;
-    let shares = partition_rows(rt, alloc, hashes.as_slice(), n_partitions, pool)?;
+    let shares = partition_rows(rt, alloc, &hashes, n_partitions, pool)?;
     let parts = deal_partitions(rt, alloc, rows, &shares, n_partitions, &hashes, pool, gate)?;
     let mut groups = GroupsIdx::from_parts(rt, alloc, parts, pool)?;
     if sorted {
@@ -94,7 +94,7 @@ fn deal_partitions<T: Threads + Sync, R: KeyRows, G: Gate + Sync>(
     rows: &R,
     shares: &[Vec<IdxVec>],
     n_partitions: usize,
-    hashes: &[u64],
+    hashes: &HashChunks,
     pool: &Pool,
     gate: &G,
 ) -> PolarsResult<Vec<Vec<IdxItem>>>
@@ -121,7 +121,7 @@ fn group_partitions<R: KeyRows, G: Gate>(
     rows: &R,
     shares: &[Vec<IdxVec>],
     n_partitions: usize,
-    hashes: &[u64],
+    hashes: &HashChunks,
     range: (usize, usize),
     gate: &G,
 ) -> PolarsResult<Vec<Vec<IdxItem>>>
@@ -145,7 +145,7 @@ fn join_partition<R: KeyRows, G: Gate>(
     alloc: Global,
     rows: &R,
     shares: &[Vec<IdxVec>],
-    hashes: &[u64],
+    hashes: &HashChunks,
     partition: usize,
     gate: &G,
 ) -> PolarsResult<Vec<IdxItem>>
@@ -170,7 +170,7 @@ fn enter_partition<R: KeyRows, G: Gate>(
     alloc: Global,
     rows: &R,
     members: &[IdxSize],
-    hashes: &[u64],
+    hashes: &HashChunks,
     partition: u64,
     gate: &G,
 ) -> PolarsResult<Vec<IdxItem>>
@@ -193,7 +193,7 @@ fn group_partition<R: KeyRows, L: Ledger>(
     alloc: Global,
     rows: &R,
     members: &[IdxSize],
-    hashes: &[u64],
+    hashes: &HashChunks,
     blank: Blank,
 ) -> PolarsResult<Vec<IdxItem>>
     requires name { blank.name ≡ L.name }
@@ -207,6 +207,7 @@ fn group_partition<R: KeyRows, L: Ledger>(
     ensures err { IfErr result IsNoMemory }
 {
     let mut steps: Steps<L> = Steps::new(blank);
-    let groups = group_members(alloc, rows, members, hashes, &mut steps)?;
+    let members = ListedRows { rows: members };
+    let groups = group_members(alloc, rows, &members, hashes, &mut steps)?;
     GroupsIdx::new(groups.first, groups.all, false).into_items()
 }

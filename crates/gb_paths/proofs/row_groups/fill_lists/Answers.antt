@@ -1,27 +1,27 @@
-use Rattle.std.proofs.Common.{arith, ◌≡◌, ◌<◌, ◌≤◌, length, ap, ◌∙◌, get_or, refl}
+use Rattle.std.proofs.Common.{arith, ◌≡◌, ◌<◌, ◌≤◌, length, ap, ◌∙◌, get_or, refl, sym}
 use Rattle.gb_paths.specs.Numbers.{lists_by}
 use Rattle.gb_paths.proofs.NumberLemmas.{filled_none, filled_room, filled_more, filled_all}
 use Rattle.gb_paths.proofs.row_groups.fill_lists.Goals as goal
 
 pub loop-place-init : goal.loop-place-init
-loop-place-init c = filled_none _ _ _ c.requires.room
+loop-place-init g c = filled_none _ _ _ c.requires.room
 
 pub push_reserved-requires : goal.push_reserved-requires
-push_reserved-requires c =
+push_reserved-requires g c =
     let inside = c.requires.known c.loop-place.place 0 c.loop-place-test.true in
     let number = get_or c.args.numbers.now c.loop-place.place 0 in
     let here : number < length c.loop-place.lists = omega (arith, inside) in
-    (omega arith, filled_room c.args.rows.now c.args.numbers.now c.requires.each c.loop-place.place number _ c.loop-place-test.true refl refl _ (c.loop-place.invariant number _ here))
+    (omega arith, filled_room (g.M.Members.listed c.args.rows.now) c.args.numbers.now c.requires.each c.loop-place.place number _ c.loop-place-test.true refl (sym c.row_at.ensures) _ (c.loop-place.invariant number _ here))
 
 pub loop-place-preserved : goal.loop-place-preserved
-loop-place-preserved c =
+loop-place-preserved g c =
     let inside = c.requires.known c.loop-place.place 0 c.loop-place-test.true in
     let number = get_or c.args.numbers.now c.loop-place.place 0 in
     let here : number < length c.loop-place.lists = omega (arith, inside) in
-    filled_more c.args.rows.now c.args.numbers.now c.requires.each c.loop-place.place number _ c.loop-place-test.true refl refl c.loop-place.lists c.index-lists-number.result c.push_reserved.new.self here c.push_reserved.ensures.items c.push_reserved.ensures.capacity c.loop-place.invariant
+    filled_more (g.M.Members.listed c.args.rows.now) c.args.numbers.now c.requires.each c.loop-place.place number _ c.loop-place-test.true refl (sym c.row_at.ensures) c.loop-place.lists c.index-lists-number.result c.push_reserved.new.self here c.push_reserved.ensures.items c.push_reserved.ensures.capacity c.loop-place.invariant
 
 pub returns : goal.returns
-returns c =
+returns g c =
     let all : length c.args.numbers.now ≤ c.loop-place.place = omega arith in
     let long : length c.loop-place.lists ≡ length c.args.lists.now = omega arith in
-    filled_all c.args.rows.now c.args.numbers.now c.loop-place.place c.loop-place.lists c.requires.each all c.loop-place.invariant ∙ ap (lists_by c.args.rows.now c.args.numbers.now) long
+    filled_all (g.M.Members.listed c.args.rows.now) c.args.numbers.now c.loop-place.place c.loop-place.lists c.requires.each all c.loop-place.invariant ∙ ap (lists_by (g.M.Members.listed c.args.rows.now) c.args.numbers.now) long

@@ -16,19 +16,19 @@ module _ (numbers counts : List ℕ) (groups : ℕ) (lists : List (SmallVec ℕ)
   all_room = rw (as_many, ← counted) made
 
 pub fill_lists-requires-clause-known : goal.fill_lists-requires-clause-known
-fill_lists-requires-clause-known c =
+fill_lists-requires-clause-known g c =
     let made = rw c.as_slice.ensures.value at c.in_ok-lists.ensures in
     let long : length c.as_mut_slice.result.now ≡ c.args.groups = ap length c.as_mut_slice.ensures.value ∙ as_many c.args.numbers.now _ c.args.groups _ c.in_ok-counts.ensures made in
     λ k d lt. rw long (c.requires.known k d lt)
 
 pub fill_lists-requires-clause-room : goal.fill_lists-requires-clause-room
-fill_lists-requires-clause-room c =
+fill_lists-requires-clause-room g c =
     let made = rw c.as_slice.ensures.value at c.in_ok-lists.ensures in
     rw c.as_mut_slice.ensures.value (all_room c.args.numbers.now _ c.args.groups _ c.in_ok-counts.ensures made)
 
 pub returns : goal.returns
-returns c =
+returns g c =
     let made = rw c.as_slice.ensures.value at c.in_ok-lists.ensures in
     let long : length c.as_mut_slice.result.now ≡ c.args.groups = ap length c.as_mut_slice.ensures.value ∙ as_many c.args.numbers.now _ c.args.groups _ c.in_ok-counts.ensures made in
     let kept : length c.fill_lists.new.lists ≡ c.in_ok-lists.lists.len = omega arith in
-    ap lists_of (refilled _ c.fill_lists.new.lists _ kept) ∙ c.fill_lists.ensures ∙ ap (lists_by c.args.rows.now c.args.numbers.now) long
+    ap lists_of (refilled _ c.fill_lists.new.lists _ kept) ∙ c.fill_lists.ensures ∙ ap (lists_by (g.M.Members.listed c.args.rows.now) c.args.numbers.now) long

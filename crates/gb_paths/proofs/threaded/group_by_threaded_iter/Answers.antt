@@ -16,15 +16,14 @@ use Rattle.gb_paths.proofs.threaded.group_by_threaded_iter.Goals.{then-sorted+in
 
 pub partition_rows-requires-clause-few : goal.partition_rows-requires-clause-few
 partition_rows-requires-clause-few g c =
-    let long = ap length c.as_slice.ensures.value ∙ c.in_ok-hashes.ensures.all in
-    omega (arith, long, c.requires.few)
+    omega (arith, c.in_ok-hashes.ensures.all, c.requires.few)
 
 pub deal_partitions-requires-clause-listed : goal.deal_partitions-requires-clause-listed
 deal_partitions-requires-clause-listed g c κs within = record {
   few = c.requires.few;
   each = rw c.deref.ensures.value c.in_ok-shares.ensures.each;
-  members = rw (c.deref.ensures.value, c.deref-2.ensures.value, ← c.as_slice.ensures.value) c.in_ok-shares.ensures.members;
-  hashed = rw c.deref-2.ensures.value c.in_ok-hashes.ensures.hashes;
+  members = rw c.deref.ensures.value c.in_ok-shares.ensures.members;
+  hashed = c.in_ok-hashes.ensures.hashes;
 }
 
 pub returns-clause-ok : goal.returns-clause-ok
@@ -32,9 +31,9 @@ returns-clause-ok g c =
     let rows = g.R.KeyRows.rows c.args.rows.now in
     let agree = same_slot_at rows.slot in
     let n = c.args.n_partitions in
-    let hashes = c.as_slice.result.now in
-    let long : length hashes ≡ rows.count = ap length c.as_slice.ensures.value ∙ c.in_ok-hashes.ensures.all in
-    let are : AreHashes rows 0 hashes = rw c.as_slice.ensures.value c.in_ok-hashes.ensures.hashes in
+    let hashes = c.in_ok-hashes.hashes in
+    let long : length hashes ≡ rows.count = c.in_ok-hashes.ensures.all in
+    let are : AreHashes rows 0 hashes = c.in_ok-hashes.ensures.hashes in
     let hashed = all_hashed rows hashes are long in
     let alike : (i j : ℕ) → i < rows.count → j < rows.count → agree i j ≡ true → rows.hash i ≡ rows.hash j = λ i j low high same.
     (g.met.R.KeyRows g.world.𝓛 g.world.𝓜 g.world.𝓡 ((λ s x. x), (λ x. x), (λ x. x), λ x. x)).hashes_alike c.args.rows.now i j low high ((Decides-slot_eq _ _).0 same) in
