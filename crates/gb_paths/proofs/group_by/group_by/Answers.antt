@@ -10,12 +10,12 @@ use Rattle.gb_paths.proofs.MemberLemmas.{all_members}
 use Rattle.gb_paths.proofs.group_by.group_by.Goals as goal
 
 pub group_members-requires-clause-members : goal.group_members-requires-clause-members
-group_members-requires-clause-members g c =
+group_members-requires-clause-members g c κs within =
     let rows = g.R.KeyRows.rows c.args.rows.now in
     rw (below_long rows, c.new-members.ensures, c.len.ensures) (all_members rows.count)
 
 pub group_members-requires-clause-hashes : goal.group_members-requires-clause-hashes
-group_members-requires-clause-hashes g c = below_hashed (g.R.KeyRows.rows c.args.rows.now)
+group_members-requires-clause-hashes g c κs within = below_hashed (g.R.KeyRows.rows c.args.rows.now)
 
 pub returns-in_err-groups-clause-steps_at_most : goal.returns-in_err-groups-clause-steps_at_most
 returns-in_err-groups-clause-steps_at_most g c =
