@@ -7,7 +7,7 @@ use Rattle.std.proofs.lemmas.Bool.{cases_Bool, eqb-true, eq-eqb}
 use Rattle.std.proofs.lemmas.List.{map-append, length-append, length-map}
 use Rattle.gb_defs.specs.Slot.{Slot, slot_at}
 use Rattle.gb_defs.specs.ColumnType.{CategoricalOrdering, ColumnType, Flat, ListOf, ArrayOf, StructOf, Null, Boolean, Unsigned, Signed, Decimal, Date, Time, Datetime, Duration, String, Binary, BinaryOffset, Categorical, Enum}
-use Rattle.gb_defs.specs.Column.{ColumnValue, fresh_column, names_of, frame_height, all_have_length, repeated_after}
+use Rattle.gb_defs.specs.Column.{ColumnValue, fresh_column, names_of, frame_height, all_have_length, repeated_after, rechunked}
 use Rattle.gb_defs.specs.Cell.{cell_slot}
 use Rattle.gb_defs.specs.Table.{TableFault, Head, onto, cell_onto, cells_from, coded_slot, record_slots, row_onto, rows_from, slots_of_column, read_column, columns_from, head_of, heads_from, texts_in}
 use Rattle.gb_cols.specs.Column.{ReadsCells}

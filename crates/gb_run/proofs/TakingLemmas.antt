@@ -14,7 +14,7 @@ use Rattle.gb_defs.specs.Column.{IsFrame}
 use Rattle.gb_run.specs.Asked.{asked_table, is_asked}
 use Rattle.gb_run.specs.Building.{Building, IsRoomy, IsWhole, in_one_chunk, read_if_kept}
 use Rattle.gb_run.specs.Table.{GivesRecords, HasRecordsOf, columns_with, columns_of_header, left_of}
-use Rattle.gb_run.specs.Taking.{IsTaking}
+use Rattle.gb_run.specs.Taking.{IsReading, IsTaking}
 use Rattle.gb_run.proofs.ReadingLemmas.{no_header, header_bad, reading_header, reading_more, reading_bad, reading_end, reading_frame, reading_roomy, reading_whole}
 
 -- a reader of a builder that names no headers and is flexible
@@ -64,7 +64,24 @@ module _ (names : List (List ℕ)) (null_word bytes : List ℕ) where
   -- the same with columns in other chunks
   pub taking_as : (row : ℕ) (columns grown : List Building) (a : Reader (Bor (List ℕ))) → map in_one_chunk grown ≡ map in_one_chunk columns
       → IsTaking names null_word bytes row columns a → IsTaking names null_word bytes row grown a
-  taking_as row columns grown a e t = record { gives = t.gives; left = t.left; source = t.source; reading = record t.reading { columns_are = e ∙ t.reading.columns_are } }
+  taking_as row columns grown a e t = record { gives = t.gives; left = t.left; source = t.source; reading = reading_as t.reading }
+    where
+      reading_as : {s : State} {left : List ℕ} → IsReading names null_word bytes row columns s left → IsReading names null_word bytes row grown s left
+      reading_as r =
+          record {
+            header = r.header;
+            rows = r.rows;
+            heads = r.heads;
+            slots = r.slots;
+            state = r.state;
+            behind = r.behind;
+            reached = r.reached;
+            goes_on = r.goes_on;
+            counted = r.counted;
+            heads_are = r.heads_are;
+            slots_are = r.slots_are;
+            columns_are = e ∙ r.columns_are;
+          }
 
   -- ---- the records below it
 

@@ -1,5 +1,5 @@
 -- The columns of a table so far: as they were built, or with the codes of their texts.
-use Rattle.std.specs.Prelude.{◌≡◌, None, true}
+use Rattle.std.specs.Prelude.{None, true}
 use Rattle.gb_defs.specs.Column.{ColumnValue}
 use Rattle.gb_defs.specs.ColumnType.{CategoricalOrdering, Categorical, Flat}
 use Rattle.gb_logical.specs.Logical.{typed_as}
@@ -15,12 +15,6 @@ kept_codes codes = record { keeps = true; column = codes }
 abbrev pub grown_in : GrownCells → Building
 grown_in (Built column) = column
 grown_in (Coded codes) = kept_codes codes
-
--- the slots of a column of categories are kept
-pub record KeepsCategories (b : Building) : Type 0 where
-  pub keeps : b.keeps ≡ true
-  pub ordering : CategoricalOrdering
-  pub dtype : b.column.dtype ≡ Flat (Categorical None ordering)
 
 -- texts that are to become categories, as they are kept
 abbrev pub categories_in : CategoricalOrdering → ColumnValue → Building

@@ -10,7 +10,7 @@ ghost use Rattle.gb_base.specs.PlSmallStr.{name_of};
 ghost use Rattle.gb_defs.specs.ColumnType.{text};
 ghost use Rattle.gb_run.specs.Builder.{IsNamed, IsOfWords, PassesDigits, PassesTexts, rechunked_of};
 ghost use Rattle.gb_run.specs.Building.{BuildsCell, IsRoomy, IsWhole, in_one_chunk, read_if_kept};
-ghost use Rattle.gb_run.specs.Grown.{KeepsCategories, categories_in};
+ghost use Rattle.gb_run.specs.Grown.{categories_in};
 ghost use Rattle.gb_run.specs.Part.{HasFew, emptied, joined_to};
 ghost use Rattle.gb_run.specs.Plain.{AreFewDigits};
 ghost use Rattle.gb_run.specs.Table.{built_of};
@@ -319,7 +319,6 @@ impl ColumnBuilder {
         ensures ok { IfOk result (λ r. self ≡ categories_in (ordering_of r.1) r.0) }
         ensures typed { IfOk result (λ r. r.0.dtype ≡ text) }
         ensures err { IfErr result (λ b. b ≡ self) }
-        ensures other { OnErr result (KeepsCategories self → ⊥) }
     {
         let ColumnBuilder {
             cells,

@@ -113,7 +113,8 @@ impl GrownColumn {
         requires { IsWhole self }
         ensures { IfOk result (λ found. option_map rechunked_of found ≡ read_if_kept self) }
     {
-        match self.cells {
+        let GrownColumn { cells } = self;
+        match cells {
             GrownCells::Built(column) => column.finish(),
             GrownCells::Coded(codes) => {
                 let column = only_memory(codes.finish())?;
@@ -164,14 +165,15 @@ fn push_coded(
     codes.push_cell(cell, is_text, null_word)
 }
 
-// The codes of the texts of another column of categories behind those of this one.
+// The codes of the texts of another column of categories behind those of this one. Both are of one type, so no
+// other column comes.
 fn append_categories(codes: &mut CategoricalBuilder, other: ColumnBuilder) -> Result<(), AllocError>
     requires { emptied (kept_codes codes.old) ≡ emptied other }
     ensures { let all = joined_to (kept_codes codes.old) other in
         OnOk result (in_one_chunk (kept_codes codes.new) ≡ in_one_chunk all) }
 {
     let Ok((texts, _)) = other.into_categories() else {
-        unreachable!();
+        return Err(AllocError);
     };
     push_texts(codes, &texts)
 }

@@ -3,7 +3,7 @@ use Rattle.csv.specs.Records.{fields_of}
 use Rattle.gb_run.specs.Asked.{is_asked, names_in}
 use Rattle.gb_run.specs.Table.{columns_of_header}
 use Rattle.gb_defs.specs.Table.{table}
-use Rattle.gb_run.proofs.ReadingLemmas.{refused_too}
+use Rattle.gb_run.proofs.ReadingLemmas.{header_whole, refused_too}
 use Rattle.gb_run.proofs.TakingLemmas.{taking_as, taking_none, taking_no_columns, taking_header}
 use Rattle.gb_run.proofs.table.csv_table.Goals as goal
 
@@ -23,6 +23,10 @@ returns-in_err-columns-clause-err c =
     let bad = taking_no_columns (names_in c.args.names.now) c.args.null_word.now c.args.bytes.now a.result c.read_record.new.reader a.ensures (fields_of c.read_record.new.fields) read in
     let p = err_from_is_err_and c.from_residual-in_err-columns.result c.from_residual-in_err-columns.ensures.1 in
     rw (p.1, p.2) (refused_too c.in_err-columns.field-0.0 (columns_of_header (is_asked (names_in c.args.names.now)) (fields_of c.read_record.new.fields)) (table c.args.bytes.now c.args.null_word.now) bad c.in_err-columns.ensures.err)
+
+pub grown_columns-requires : goal.grown_columns-requires
+grown_columns-requires c =
+    header_whole (names_in c.args.names.now) c.args.null_word.now c.args.bytes.now (fields_of c.read_record.new.fields) c.in_ok-columns.columns.items c.in_ok-columns.ensures.ok
 
 pub csv_rows-requires : goal.csv_rows-requires
 csv_rows-requires c =

@@ -31,7 +31,7 @@ returns-then-not-branch-clause-err c =
     let now = c.loop-place.columns in
     let column = get_or now c.loop-place.place c.index-columns-place.result in
     let lt : c.loop-place.place < length now = omega arith in
-    let bad = rw c.if-not-branch.true at c.in_ok-push_cell.ensures.ok in
+    let bad = rw c.if-not-branch.true at c.in_ok-push_cell.ensures in
     let long : length (fields_of c.args.fields.now) ≡ length c.args.columns.now = sym c.len-found.ensures ∙ c.if-found-wanted.false in
     pushing_bad c.args.null_word.now c.args.columns.now (fields_of c.args.fields.now) c.loop-place.place now c.loop-place.invariant.passing
     column c.in-Some.cell.now lt (get_or_default now c.loop-place.place c.index-columns-place.result column lt) (sym c.in-Some.ensures.value) c.args.row long (sym bad)
@@ -41,7 +41,7 @@ loop-place-preserved c =
     let now = c.loop-place.columns in
     let column = get_or now c.loop-place.place c.index-columns-place.result in
     let lt : c.loop-place.place < length now = omega arith in
-    let good = rw c.if-not-branch.false at c.in_ok-push_cell.ensures.ok in
+    let good = rw c.if-not-branch.false at c.in_ok-push_cell.ensures in
     record {
       passing = pushing_more c.args.null_word.now c.args.columns.now (fields_of c.args.fields.now)
           c.loop-place.place now c.loop-place.invariant.passing column c.in-Some.cell.now lt (get_or_default now c.loop-place.place c.index-columns-place.result column lt) (sym c.in-Some.ensures.value) c.push_cell.new.self (sym good);

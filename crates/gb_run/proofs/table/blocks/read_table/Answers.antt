@@ -1,10 +1,17 @@
-use Rattle.std.proofs.Common.{arith}
+use Rattle.std.proofs.Common.{[], arith}
 use Rattle.std.proofs.lemmas.Result.{err_from_is_err_and}
 use Rattle.csv.specs.Records.{fields_of}
 use Rattle.gb_run.specs.Asked.{names_in}
 use Rattle.gb_run.proofs.DeviceLemmas.{other_err}
+use Rattle.gb_run.proofs.ReadingLemmas.{header_whole}
 use Rattle.gb_run.proofs.StreamLemmas.{refused_later, streamed_as, streamed_start}
 use Rattle.gb_run.proofs.table.blocks.read_table.Goals as goal
+
+pub grown_columns-requires : goal.grown_columns-requires
+grown_columns-requires g c κs within =
+    let r = c.args.reading.now in
+    let started = rw (c.in-Some.is, c.deref.ensures.value) at c.in_ok-start.ensures in
+    header_whole (names_in r.names.now) r.null_word.now [] (fields_of c.in-Some.start.header) c.in-Some.start.columns.items started.columns_are
 
 pub read_on-requires-clause-streamed : goal.read_on-requires-clause-streamed
 read_on-requires-clause-streamed g c κs within =

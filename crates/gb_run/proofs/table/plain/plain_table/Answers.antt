@@ -27,6 +27,15 @@ returns-in_err-columns-clause-err g c =
     rw (p.1, p.2) (refused_too c.in_err-columns.field-0.0 (columns_of_header (is_asked (names_in c.args.names.now)) (fields_of c.in-Some.header)) (table bytes c.args.null_word.now)
     (plain_no_columns (names_in c.args.names.now) c.args.null_word.now bytes (fields_of c.in-Some.header) c.in-Some.text.now h) c.in_err-columns.ensures.err)
 
+pub grown_columns-requires : goal.grown_columns-requires
+grown_columns-requires g c =
+    let bytes = c.args.bytes.now in
+    let begins = rw c.in-Some.is at c.in_ok-header.ensures in
+    let some : 0 < length c.without_mark-text.result.now = grind (arith, nat_tests, c.if-is_empty.ensures) in
+    let h = headed bytes c.without_mark-text.result.now (fields_of c.in-Some.header) c.in-Some.text.now c.without_mark-text.ensures some c.if-is_line_end.ensures.no begins in
+    let part = rw c.in-Some-2.is at c.in_ok-columns.ensures.ok in
+    plain_whole (names_in c.args.names.now) c.args.null_word.now bytes (fields_of c.in-Some.header) c.in-Some.text.now h c.in-Some-2.columns.items part c.requires.few
+
 pub frame_of-requires-clause-whole : goal.frame_of-requires-clause-whole
 frame_of-requires-clause-whole g c =
     let bytes = c.args.bytes.now in
