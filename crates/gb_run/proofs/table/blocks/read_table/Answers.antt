@@ -8,7 +8,7 @@ use Rattle.gb_run.proofs.StreamLemmas.{refused_later, streamed_as, streamed_star
 use Rattle.gb_run.proofs.table.blocks.read_table.Goals as goal
 
 pub grown_columns-requires : goal.grown_columns-requires
-grown_columns-requires g c κs within =
+grown_columns-requires g c =
     let r = c.args.reading.now in
     let started = rw (c.in-Some.is, c.deref.ensures.value) at c.in_ok-start.ensures in
     header_whole (names_in r.names.now) r.null_word.now [] (fields_of c.in-Some.start.header) c.in-Some.start.columns.items started.columns_are
