@@ -4,6 +4,8 @@ use Rattle.std.specs.List.{All, list_any}
 use Rattle.gb_defs.specs.Column.{ColumnValue}
 use Rattle.gb_defs.specs.Slot.{Slot, is_nil}
 use Rattle.gb_logical.specs.Categorical.{IsCodeBelow, coded_as}
+use Rattle.gb_flat_series.specs.FlatSeries.{IsFlat}
+use Rattle.gb_flat_series.specs.declared.series.FlatSeries.TheVariants as flat
 use Rattle.gb_series.specs.Series.{value_of}
 use Rattle.gb_series.specs.declared.series.Series.{Series}
 use Rattle.gb_series.specs.declared.series.Series.TheVariants as series
@@ -35,13 +37,13 @@ plain_layout c = chunk_layout (length c.chunks == 1) (list_any is_nil c.slots)
 
 -- the layout that a series takes where its slots are told to be equal
 abbrev pub eq_layout_for : Series → Layout
-eq_layout_for (series.Null c) = OnlyNulls
+eq_layout_for (series.Flat (flat.Null c)) = OnlyNulls
 eq_layout_for s = plain_layout (value_of s)
 
 -- and where they are put in order
 abbrev pub ord_layout_for : Series → Layout
-ord_layout_for (series.Null c) = OnlyNulls
-ord_layout_for (series.Categorical c) = ByTexts
+ord_layout_for (series.Flat (flat.Null c)) = OnlyNulls
+ord_layout_for (series.Flat (flat.Categorical c)) = ByTexts
 ord_layout_for s = plain_layout (value_of s)
 
 -- ---- the layouts, and the columns that they compare
@@ -86,8 +88,12 @@ ord_layout (ordered.Local c) = ByTexts
 
 -- its slots have an order
 abbrev pub HasOrder : OrdInner → Type 0
+HasOrder (ordered.SingleNoNull s) = IsFlat (value_of s.0.now).dtype
+HasOrder (ordered.Single s) = IsFlat (value_of s.now).dtype
+HasOrder (ordered.MultiNoNull s) = IsFlat (value_of s.0.now).dtype
+HasOrder (ordered.Multi s) = IsFlat (value_of s.now).dtype
+HasOrder (ordered.Null c) = Unit {0}
 HasOrder (ordered.Local c) = HasTexts c
-HasOrder _ = Unit {0}
 
 -- a column has the slots of another, in the same order
 pub record ComparesLike (c other : ColumnValue) : Type 0 where

@@ -1,6 +1,7 @@
 //! The layouts in which a series is compared: by its chunks, its nulls and its type.
 
 ghost use Rattle.std.specs.Prelude.{◌≡◌};
+ghost use Rattle.gb_flat_series.specs.FlatSeries.{IsFlat};
 ghost use Rattle.gb_series.specs.Series.{value_of};
 ghost use Rattle.gb_series.specs.declared.series.Series.{Series};
 ghost use Rattle.gb_compare.specs.Layout.{ComparesLike, HasOrder, eq_column, eq_layout, eq_layout_for, ord_column, ord_layout, ord_layout_for, plain_layout};
@@ -10,6 +11,7 @@ use crate::inner::{TotalEqInner, TotalOrdInner};
 use crate::null_order::NonNull;
 use gb_cols::null::NullChunked;
 use gb_cols::series_trait::SeriesTrait;
+use gb_flat_series::series::FlatSeries;
 use gb_series::series::Series;
 use std::cmp::Ordering;
 
@@ -102,9 +104,10 @@ pub trait IntoTotalInner {
         ensures column { eq_column result ≡ value_of (series self.now) }
         ensures layout { eq_layout result ≡ eq_layout_for (series self.now) };
 
-    /// The layout of categories is theirs, however many chunks there are. One pass over the chunks, no
-    /// memory.
+    /// The layout of categories is theirs, however many chunks there are. Lists, arrays and structs have no
+    /// order. One pass over the chunks, no memory.
     fn into_total_ord_inner(&self) -> OrdInner<'_>
+        requires { IsFlat (value_of (series self.now)).dtype }
         ensures column { ComparesLike (value_of (series self.now)) (ord_column result) }
         ensures compares { HasOrder result }
         ensures layout { ord_layout result ≡ ord_layout_for (series self.now) };
@@ -115,15 +118,17 @@ impl IntoTotalInner for Series {
 
     fn into_total_eq_inner(&self) -> EqInner<'_> {
         match self {
-            Series::Null(column) => EqInner::Null(column),
+            Series::Flat(FlatSeries::Null(column)) => EqInner::Null(column),
             _ => plain_inner(self),
         }
     }
 
     fn into_total_ord_inner(&self) -> OrdInner<'_> {
         match self {
-            Series::Null(column) => OrdInner::Null(column),
-            Series::Categorical(column) => OrdInner::Local(local_categorical(column)),
+            Series::Flat(FlatSeries::Null(column)) => OrdInner::Null(column),
+            Series::Flat(FlatSeries::Categorical(column)) => {
+                OrdInner::Local(local_categorical(column))
+            }
             _ => ordered_inner(plain_inner(self)),
         }
     }
@@ -144,6 +149,7 @@ fn plain_inner(series: &Series) -> EqInner<'_>
 
 // The same layout, for its order.
 fn ordered_inner(inner: EqInner<'_>) -> OrdInner<'_>
+    requires { IsFlat (eq_column inner).dtype }
     ensures column { ord_column result ≡ eq_column inner.entry }
     ensures compares { HasOrder result }
     ensures layout { ord_layout result ≡ eq_layout inner.entry }

@@ -21,6 +21,7 @@ use gb_hash::num_rows::NumRows;
 use gb_paths::group_by::group_uncounted;
 use gb_paths::into_groups::IntoGroupsType;
 use gb_paths::threaded::{group_by_threaded_iter, group_by_threaded_slice};
+use gb_series::into_series::IntoSeries;
 use gb_series::series::Series;
 use std::alloc::Global;
 use std::process::Abort;
@@ -203,7 +204,7 @@ fn texts_are<T: Threads + Sync>(
     if !has_groups(rt, pool, &column, true, wanted)? {
         return Ok(false);
     }
-    has_groups(rt, pool, &Series::String(column), false, wanted)
+    has_groups(rt, pool, &column.into_series(), false, wanted)
 }
 
 // The same of a column of numbers.
@@ -220,7 +221,7 @@ fn numbers_are<T: Threads + Sync>(
     if !has_groups(rt, pool, &column, true, wanted)? {
         return Ok(false);
     }
-    has_groups(rt, pool, &Series::Int64(column), false, wanted)
+    has_groups(rt, pool, &column.into_series(), false, wanted)
 }
 
 // Whether numbers in chunks have their groups, with no null and with one in the last chunk.

@@ -1,5 +1,5 @@
 -- Keys in a form of their own stand for the slots of a column.
-use Rattle.std.proofs.Common.{◌≡◌, inl, inr, ℕ, ℤ, pos, ◌<◌, true, false, List, length, map, All, Option, None, Some, MatchOption, refl, sym, ◌∙◌, ap, subst}
+use Rattle.std.proofs.Common.{◌≡◌, ◌==◌, inl, inr, ℕ, ℤ, pos, ◌<◌, Bool, true, false, if◌then◌else◌, List, length, map, All, Option, None, Some, MatchOption, refl, sym, ◌∙◌, ap, subst}
 use Rattle.std.specs.Bool.{Decides}
 use Rattle.std.specs.Borrow.{Bor}
 use Rattle.std.specs.Global.{Global}
@@ -9,7 +9,8 @@ use Rattle.std.proofs.lemmas.Bool.Decides.{same_from_decides}
 use Rattle.std.proofs.lemmas.List.{get_or-map, length-map}
 use Rattle.std.proofs.lemmas.Simd.{map-map}
 use Rattle.gb_defs.specs.Column.{ColumnValue, categories_of}
-use Rattle.gb_defs.specs.ColumnType.{ColumnType, FlatType, Flat, Unsigned}
+use Rattle.gb_defs.specs.ColumnType.{ArrayOf, ColumnType, FlatType, Flat, ListOf, StructOf, Unsigned}
+use Rattle.gb_defs.specs.Fault.{InvalidOperation, OfHash}
 use Rattle.gb_defs.specs.Hash.{hash_number, hash_of, hash_width, seed_mix}
 use Rattle.gb_defs.specs.Path.{Codes, Numbers, ByteLists, flat_kind, kind_of}
 use Rattle.gb_defs.specs.Rows.{StandsFor, rows_of_slots}
@@ -20,7 +21,8 @@ use Rattle.gb_values.specs.Keys.{AreWide, AreWords, IsToldByWide, IsToldByWord, 
 use Rattle.gb_numbers.specs.Native.{IsWhole, is_wide, unwidened, unworded}
 use Rattle.gb_cols.specs.Null.{AreNulls}
 use Rattle.gb_hash.specs.Keys.{key_slots}
-use Rattle.gb_paths.specs.Keys.{HasNoValues, StandFor}
+use Rattle.gb_series.specs.Variant.{type_variant}
+use Rattle.gb_paths.specs.Keys.{HasNoValues, StandFor, hash_fault}
 use Rattle.gb_paths.specs.PlainWords.{ArePlain}
 use Rattle.gb_paths.specs.declared.into_groups.Keys.{Keys}
 use Rattle.gb_paths.specs.declared.into_groups.Keys.TheVariants.{Plain, Words, PlainCodes, Wide}
@@ -202,3 +204,12 @@ module _ (column stored : ColumnValue) (slots : column.slots ≡ stored.slots) (
   pub typed_keys : (keys : Option Keys) → MatchOption keys (HasNoValues stored) (StandFor stored) → MatchOption keys (HasNoValues column) (StandFor column)
   typed_keys None none = record { kind = kind ∙ none.kind; nulls = subst (λ (ss : List Slot). AreNulls ss) (sym slots) none.nulls }
   typed_keys (Some keys) stand = typed_stand_for keys stand
+
+-- ---- types without a hash
+
+-- a type is refused as a key exactly where it holds others
+pub hash_by_variant : (n : ℕ) (t : ColumnType) (name : List ℕ) → type_variant t ≡ n → hash_fault t name ≡ (if n == 0 then None else Some (InvalidOperation OfHash name))
+hash_by_variant n (Flat t) name is = ap (λ k. if k == 0 then None else Some (InvalidOperation OfHash name)) is
+hash_by_variant n (ListOf t) name is = ap (λ k. if k == 0 then None else Some (InvalidOperation OfHash name)) is
+hash_by_variant n (ArrayOf t width) name is = ap (λ k. if k == 0 then None else Some (InvalidOperation OfHash name)) is
+hash_by_variant n (StructOf fs) name is = ap (λ k. if k == 0 then None else Some (InvalidOperation OfHash name)) is

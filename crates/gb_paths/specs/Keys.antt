@@ -1,7 +1,9 @@
 -- Keys in one of their forms, and what they say of a column.
-use Rattle.std.specs.Prelude.{◌≡◌, ℕ, pos, Bool, true, false, map, replicate}
+use Rattle.std.specs.Prelude.{◌≡◌, ℕ, pos, Bool, true, false, List, Option, None, Some, map, replicate}
 use Rattle.std.specs.Int.{w64, w128}
 use Rattle.gb_defs.specs.Column.{ColumnValue}
+use Rattle.gb_defs.specs.ColumnType.{ColumnType, Flat}
+use Rattle.gb_defs.specs.Fault as fault
 use Rattle.gb_defs.specs.Hash.{hash_width, seed_mix}
 use Rattle.gb_defs.specs.Path.{KeyKind, NoValues, Numbers, ByteLists, kind_of}
 use Rattle.gb_defs.specs.Path as path
@@ -59,3 +61,11 @@ pub record HasNoValues (column : ColumnValue) : Type 0 where
 pub record StandFor (column : ColumnValue) (keys : Keys) : Type 0 where
   pub rows : (seed : ℕ) → StandsFor (rows_of_slots (hash_width column.dtype) seed seed_mix column.slots) (rows_of_keys seed keys)
   pub kind : kind_of column.dtype ≡ key_kind keys
+
+-- a type that holds others has no hash, so that its rows are not grouped today
+abbrev pub hash_fault : ColumnType → List ℕ → Option fault.Fault
+hash_fault (Flat t) name = None
+hash_fault t name = Some (fault.InvalidOperation fault.OfHash name)
+
+abbrev pub key_fault : ColumnValue → Option fault.Fault
+key_fault column = hash_fault column.dtype column.name

@@ -1,29 +1,35 @@
 //! The groups of a column's rows: the keys of its rows in one of a few forms, the path by its type and
 //! length, and the groups by them. Rows of a type without values are one run.
 
-ghost use Rattle.std.specs.Prelude.{◌≡◌, ◌<◌, [], true, length, map, IfOk, IfErr, IfSome, MatchOption};
+ghost use Rattle.std.specs.Prelude.{◌≡◌, ◌<◌, [], None, Some, true, length, map, OnOk, IfOk, IfErr, IfSome, MatchOption};
 ghost use Rattle.std.specs.Thread.{IsSync};
+ghost use Rattle.gb_defs.specs.Fault.{InvalidOperation, OfHash};
 ghost use Rattle.gb_defs.specs.Groups.{HasRowNumbers, IsWellFormed, idx_groups};
 ghost use Rattle.gb_defs.specs.Path.{hashed_path, path_groups, run_groups};
 ghost use Rattle.gb_defs.specs.Slot as slot;
-ghost use Rattle.gb_base.specs.PlSmallStr.{IsNoMemory};
+ghost use Rattle.gb_base.specs.PlSmallStr.{IsNoMemory, name_of};
+ghost use Rattle.gb_base.specs.PolarsError.{Explains};
 ghost use Rattle.gb_base.specs.Pool.{partitions_of, seed_of, threshold_of, workers_of};
 ghost use Rattle.gb_groups.specs.GroupsType.{groups_of};
+ghost use Rattle.gb_flat_series.specs.FlatSeries.{column_of};
 ghost use Rattle.gb_series.specs.Series.{value_of};
-ghost use Rattle.gb_paths.specs.Keys.{HasNoValues, StandFor, are_bytes, are_codes, null_rows, rows_of_keys};
+ghost use Rattle.gb_paths.specs.Keys.{HasNoValues, StandFor, are_bytes, are_codes, key_fault, null_rows, rows_of_keys};
 ghost use Rattle.gb_paths.specs.Tuples.{path_value, tuples_of};
 
 use crate::group_by::group_uncounted;
 use crate::plain_words::plain_words;
 use crate::threaded::group_by_threaded_iter;
 use gb_base::device::Gate;
-use gb_base::error::PolarsResult;
+use gb_base::error::{Operation, PolarsError, PolarsResult};
 use gb_base::memory::FreeGate;
 use gb_base::nullable_idx::IdxSize;
 use gb_base::pool::Pool;
+use gb_base::small_str::PlSmallStr;
 use gb_cols::chunked::{ChunkedArray, StringChunked};
 use gb_cols::null::NullChunked;
 use gb_cols::series_trait::SeriesTrait;
+use gb_flat_series::of_column;
+use gb_flat_series::series::FlatSeries;
 use gb_groups::groups_idx::GroupsIdx;
 use gb_groups::groups_slice::GroupsSlice;
 use gb_groups::groups_type::GroupsType;
@@ -34,7 +40,6 @@ use gb_hash::slice_rows::SliceRows;
 use gb_logical::categorical::CategoricalChunked;
 use gb_logical::logical::{Logical, LogicalKind};
 use gb_numbers::numeric::{Native, PolarsNumericType};
-use gb_series::of_column;
 use gb_series::series::Series;
 use gb_values::binary::{Binary, BinaryOffset};
 use gb_values::boolean::FlagValues;
@@ -62,7 +67,7 @@ pub trait IntoGroupsType: SeriesTrait {
             groups_of g ≡ tuples_of (Self.value self.now) multithreaded sorted pool.now) }
         ensures formed { IfOk result (λ g.
             IsWellFormed (length (Self.value self.now).slots) (groups_of g).pairs) }
-        ensures err { IfErr result IsNoMemory };
+        ensures err { IfErr result (λ e. Explains e (key_fault (Self.value self.now))) };
 }
 
 impl<C: KeyColumn> IntoGroupsType for C {
@@ -91,9 +96,18 @@ pub fn group_tuples_gated<T: Threads + Sync, G: Gate + Sync>(
         groups_of g ≡ tuples_of (value_of key.now) multithreaded sorted pool.now) }
     ensures formed { IfOk result (λ g.
         IsWellFormed (length (value_of key.now).slots) (groups_of g).pairs) }
-    ensures err { IfErr result IsNoMemory }
+    ensures err { IfErr result (λ e. Explains e (key_fault (value_of key.now))) }
 {
     group_column(rt, key, multithreaded, sorted, pool, gate)
+}
+
+/// That rows can be grouped by the column. A type that holds others has no hash today.
+pub fn check_key(key: &Series) -> PolarsResult<()>
+    ensures ok { OnOk result (key_fault (value_of key.now) ≡ None) }
+    ensures err { IfErr result (λ e. Explains e (key_fault (value_of key.now))) }
+{
+    flat_key(key)?;
+    Ok(())
 }
 
 /// A key for each row, in a form that no later loop looks a chunk up for. A null has none.
@@ -220,13 +234,13 @@ impl KeyValues for ByteValues<BinaryOffset> {
     }
 }
 
-/// A column whose rows have keys.
+/// A column whose rows have keys. Columns of lists, arrays and structs have none today, and say so.
 pub trait KeyColumn: SeriesTrait {
     /// The keys, as `KeyValues` gives them: none where the column's type has no values.
     fn keys(&self) -> PolarsResult<Option<Keys<'_>>>
         ensures ok { let column = Self.value self.now in
             IfOk result (λ keys. MatchOption keys (HasNoValues column) (StandFor column)) }
-        ensures err { IfErr result IsNoMemory };
+        ensures err { IfErr result (λ e. Explains e (key_fault (Self.value self.now))) };
 }
 
 impl<V: KeyValues> KeyColumn for ChunkedArray<V> {
@@ -262,9 +276,40 @@ impl KeyColumn for CategoricalChunked {
     }
 }
 
-impl KeyColumn for Series {
+impl KeyColumn for FlatSeries {
     fn keys(&self) -> PolarsResult<Option<Keys<'_>>> {
         of_column!(self, column => column.keys())
+    }
+}
+
+impl KeyColumn for Series {
+    fn keys(&self) -> PolarsResult<Option<Keys<'_>>> {
+        let column = flat_key(self)?;
+        column.keys()
+    }
+}
+
+// The column of a key whose rows have hashes.
+#[tactic(auto, using(crate::proofs::KeyFormLemmas::hash_by_variant))]
+fn flat_key(key: &Series) -> PolarsResult<&FlatSeries>
+    ensures ok { IfOk result (λ column. column_of column.now ≡ value_of key.now) }
+    ensures sound { OnOk result (key_fault (value_of key.now) ≡ None) }
+    ensures err { IfErr result (λ e. Explains e (key_fault (value_of key.now))) }
+{
+    key.tell_variant();
+    match key {
+        Series::Flat(column) => Ok(column),
+        _ => Err(no_hash(key.name())),
+    }
+}
+
+// That the type of the column of this name has no hash, or want of memory.
+fn no_hash(name: &PlSmallStr) -> PolarsError
+    ensures { Explains result (Some (InvalidOperation OfHash (name_of name.now))) }
+{
+    match name.try_clone() {
+        Ok(name) => PolarsError::InvalidOperation(Operation::Hash, name),
+        Err(e) => e,
     }
 }
 
@@ -306,7 +351,7 @@ pub fn group_column<T: Threads + Sync, C: KeyColumn, G: Gate + Sync>(
         groups_of g ≡ tuples_of (C.value column.now) multithreaded sorted pool.now) }
     ensures formed { IfOk result (λ g.
         IsWellFormed (length (C.value column.now).slots) (groups_of g).pairs) }
-    ensures err { IfErr result IsNoMemory }
+    ensures err { IfErr result (λ e. Explains e (key_fault (C.value column.now))) }
 {
     let alloc = column.allocator();
     let Some(keys) = column.keys()? else {

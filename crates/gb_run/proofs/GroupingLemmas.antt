@@ -1,5 +1,5 @@
 -- What a grouping comes to, by keys that its frame has.
-use Rattle.std.proofs.Common.{◌≡◌, ℕ, ◌<◌, ◌≤◌, Bool, true, List, [], ◌∷◌, Option, Some, None, Result, Ok, Err, length, map, refl, sym, ◌∙◌, ap, subst, arith, All, eq-eqb}
+use Rattle.std.proofs.Common.{◌≡◌, ℕ, ◌<◌, ◌≤◌, Bool, true, List, [], ◌∷◌, Option, Some, None, Result, Ok, Err, length, map, refl, sym, ◌∙◌, ap, subst, arith, All, eq-eqb, is_none, if◌then◌else◌}
 use Rattle.std.specs.Option.{option_or}
 use Rattle.std.specs.Result.{result_err}
 use Rattle.std.proofs.lemmas.List.{length-map}
@@ -10,14 +10,15 @@ use Rattle.gb_defs.specs.Classes.{agree_by, class, firsts, groups, rows_below, s
 use Rattle.gb_defs.specs.Fold.{Method}
 use Rattle.gb_defs.specs.Groups.{AreMembers, Grouping, HasRowNumbers, IsWellFormed, first_of, lists_in, rows_of_pair}
 use Rattle.gb_defs.specs.Answer.{agree_of, answer_names, height_of, kept_rows}
-use Rattle.gb_defs.specs.Fault.{Fault, duplicate_of, fault, missing_fault, rows_fault, shape_fault, unfit_fault}
-use Rattle.gb_defs.specs.Outcome.{column_onto, find_columns, grouped}
+use Rattle.gb_defs.specs.Fault.{ColumnNotFound, Fault, duplicate_of, fault, missing_fault, rows_fault, shape_fault, unfit_fault}
+use Rattle.gb_defs.specs.Outcome.{column_onto, find_columns, grouped, grouped_if}
 use Rattle.gb_defs.proofs.AnswerLemmas.{AreHigh, agree_high, agree_one, answer_high, answered, faulty, groups_firsts, groups_lists}
 use Rattle.gb_defs.proofs.ClassesLemmas.{firsts_few}
 use Rattle.gb_base.specs.PolarsError.{IsCause}
-use Rattle.gb_series.specs.Frame.{frame_fault}
+use Rattle.gb_paths.specs.Keys.{key_fault}
+use Rattle.gb_series.specs.Frame.{frame_fault, missing_column}
 use Rattle.gb_series.proofs.FrameLemmas.{found_long}
-use Rattle.gb_run.specs.Grouping.{answer_parts, firsts_in}
+use Rattle.gb_run.specs.Grouping.{answer_parts, firsts_in, hashed_fault}
 use Rattle.gb_run.proofs.CauseLemmas.{cause_first}
 use Rattle.gb_run.proofs.PartLemmas.{parts_fault}
 
@@ -135,6 +136,23 @@ module _ (frame : Frame) (whole : IsFrame frame) (name : List ℕ) (names : List
             ∙ ap (λ rows. answer_parts frame (key ∷ keys) aggs rows (map (class (agree_by (map (λ key. key.slots) (key ∷ keys))) (kept_rows frame (key ∷ keys))) rows)) rows_are
             ∙ ap (λ lists. answer_parts frame (key ∷ keys) aggs rows lists) lists_are
             ∙ sym columns_are)
+
+-- ---- a key whose rows have hashes, or have none
+
+-- a key that is missing is why there is no grouping
+found_or : (name : List ℕ) (found : Option ColumnValue) (more : Result (List ColumnValue) Fault) (frame : Frame) (aggs : List (List ℕ × Method)) (known : Option Fault)
+    → IsCause known (if is_none found then Some (ColumnNotFound name) else None) → IsCause known (hashed_fault found (result_err (grouped_if frame (column_onto name found more) aggs)))
+found_or name found more frame aggs None h = tt
+found_or name None more frame aggs (Some f) h = h
+found_or name (Some key) more frame aggs (Some f) h = cc
+
+pub key_missing : (frame : Frame) (name : List ℕ) (aggs : List (List ℕ × Method)) (known : Option Fault) → IsCause known (missing_column frame name)
+    → IsCause known (hashed_fault (find_column frame name) (result_err (grouped frame (name ∷ []) aggs)))
+key_missing frame name aggs known h = found_or name (find_column frame name) (find_columns frame []) frame aggs known h
+
+-- why a key that has hashes is not grouped is the rest
+pub behind_key : (key : ColumnValue) (known rest : Option Fault) → key_fault key ≡ None → IsCause known rest → IsCause known (hashed_fault (Some key) rest)
+behind_key key known rest none h = rw none h
 
 -- ---- the groups of one key of the frame
 

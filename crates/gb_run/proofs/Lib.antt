@@ -8,6 +8,7 @@ pub mod ChunkLemmas
 pub mod DeviceLemmas
 pub mod DigitsLemmas
 pub mod ExtendLemmas
+pub mod FlatLemmas
 pub mod FoldingLemmas
 pub mod GroupPartLemmas
 pub mod GroupingLemmas

@@ -2,7 +2,7 @@
 use Rattle.std.proofs.Common.{◌≡◌, ℕ, Bool, true, false, List, [], ◌∷◌, ◌∙◌, Option, Some, None, Result, Ok, Err, cond, length, map, get_or, refl, sym, ap, arith}
 use Rattle.std.specs.Prelude.{option_map, option_and_then}
 use Rattle.std.specs.Result.{result_err}
-use Rattle.gb_defs.specs.Column.{Content, Frame, IsFrame, rechunked}
+use Rattle.gb_defs.specs.Column.{Content, Frame, IsFrame, find_column, rechunked}
 use Rattle.gb_defs.specs.Fault.{Fault}
 use Rattle.gb_defs.specs.Fold.{Method}
 use Rattle.gb_defs.specs.Outcome.{BadGroup, BadTable, Outcome, Report, grouped, outcome, outcome_of_table, written}
@@ -21,9 +21,11 @@ use Rattle.gb_run.specs.declared.status.Status.{Status}
 use Rattle.gb_run.specs.declared.status.Status.TheVariants as status
 use Rattle.gb_run.specs.Refusal.{IsRefusedTable}
 use Rattle.gb_run.specs.Asked.{asked_names, asked_table, kept}
+use Rattle.gb_run.specs.Grouping.{hashed_fault}
 use Rattle.gb_run.specs.Table.{map_ok}
 use Rattle.gb_run.proofs.AskedLemmas.{grouped_asked}
 use Rattle.gb_run.proofs.ChunkLemmas.{grouped_rechunked}
+use Rattle.gb_run.proofs.FlatLemmas.{table_hashed}
 use Rattle.gb_run.proofs.ReadingLemmas.{table_is_frame}
 
 -- the names of one key
@@ -80,8 +82,10 @@ module _ (by : List ℕ) (aggs : List (List ℕ × Method)) (options : ToolOptio
   unfolding outcome
   read_outcome = as_whole by aggs options (table bytes options.null_word) frame (table_is_frame options.null_word bytes) read
 
-  pub bad_group : (e : PolarsError) (s : Status) → Explains e (result_err (grouped frame (by ∷ []) aggs)) → IsStatusOf e s → IsRefusedReport s (outcome (Group (by ∷ []) aggs options) bytes)
-  bad_group e s h t = rw read_outcome (refused_cause (by ∷ []) aggs options bytes (cause_of e) (grouped frame (by ∷ []) aggs) s h t)
+  pub bad_group : (e : PolarsError) (s : Status) → Explains e (hashed_fault (find_column frame by) (result_err (grouped frame (by ∷ []) aggs))) → IsStatusOf e s → IsRefusedReport s (outcome (Group (by ∷ []) aggs options) bytes)
+  bad_group e s h t =
+      let hashed = table_hashed (asked_names by aggs) bytes options.null_word frame by (result_err (grouped frame (by ∷ []) aggs)) read in
+      rw read_outcome (refused_cause (by ∷ []) aggs options bytes (cause_of e) (grouped frame (by ∷ []) aggs) s (rw hashed at h) t)
 
   pub good_report : (columns : List Content) (text : List ℕ) → grouped frame (by ∷ []) aggs ≡ Ok columns → text ≡ frame_text columns options.null_word → outcome (Group (by ∷ []) aggs options) bytes ≡ Report text
   good_report columns text is printed = read_outcome ∙ ap (written options.null_word) is ∙ ap (λ t. Report t) (sym printed)

@@ -6,7 +6,7 @@ use Rattle.gb_defs.specs.ColumnType as types
 use Rattle.gb_defs.specs.Slot.{Nil}
 use Rattle.gb_cols.specs.Column.{ReadsCells}
 use Rattle.gb_base.specs.DataType.{ordering_of}
-use Rattle.gb_series.specs.Series.{HasColumn}
+use Rattle.gb_flat_series.specs.FlatSeries.{HasColumn}
 use Rattle.gb_logical.specs.Logical.{typed_as}
 use Rattle.gb_base.specs.declared.data_type.DataType.{DataType}
 use Rattle.gb_base.specs.declared.data_type.DataType.TheVariants.{Categorical}

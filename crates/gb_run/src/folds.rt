@@ -10,6 +10,7 @@ ghost use Rattle.gb_defs.specs.Fault.{has_sum, InvalidOperation, OfSum};
 ghost use Rattle.gb_base.specs.PolarsError.{Explains};
 ghost use Rattle.gb_base.specs.PlSmallStr.{name_of, IsNoMemory};
 ghost use Rattle.gb_values.specs.Array.{native_slot};
+ghost use Rattle.gb_flat_series.specs.FlatSeries.{column_of};
 ghost use Rattle.gb_groups.specs.GroupsIndicator.{pair_of};
 ghost use Rattle.gb_series.specs.Series.{value_of};
 ghost use Rattle.gb_run.specs.GroupPart.{part_of};
@@ -28,9 +29,11 @@ use gb_base::small_str::PlSmallStr;
 use gb_cols::chunked::ChunkedArray;
 use gb_cols::primitive::UInt32Chunked;
 use gb_cols::series_trait::SeriesTrait;
+use gb_flat_series::map_sums;
+use gb_flat_series::series::FlatSeries;
 use gb_groups::groups_type::GroupsIndicator;
 use gb_numbers::numeric::PolarsNumericType;
-use gb_series::map_sums;
+use gb_series::into_series::IntoSeries;
 use gb_series::series::Series;
 use gb_values::primitive::NumberValues;
 use group_part::GroupPart;
@@ -56,13 +59,9 @@ pub fn aggregate(
     let name = name_of_answer(alloc, agg)?;
     match agg.method {
         GroupByMethod::Sum => column_sums(alloc, name, column, &agg.column, groups),
-        GroupByMethod::Count { include_nulls } => Ok(Series::UInt32(column_counts(
-            alloc,
-            name,
-            column,
-            include_nulls,
-            groups,
-        )?)),
+        GroupByMethod::Count { include_nulls } => {
+            Ok(column_counts(alloc, name, column, include_nulls, groups)?.into_series())
+        }
     }
 }
 
@@ -102,6 +101,39 @@ fn series_sums(
     ensures ok { let lists = lists_in (part_of groups.now) in
         IfOk result (λ sums. option_map value_of sums
         ≡ sums_of_column (name_of name) (value_of column.now) lists) }
+    ensures err { IfErr result IsNoMemory }
+{
+    match column {
+        Series::Flat(column) => match flat_sums(name, column, groups)? {
+            Some(sums) => Ok(Some(Series::Flat(sums))),
+            None => Ok(None),
+        },
+        // The calls tell the column's type, which has no sum.
+        Series::List(column) => {
+            column.tell_type();
+            Ok(None)
+        }
+        Series::Array(column) => {
+            column.tell_type();
+            Ok(None)
+        }
+        Series::Struct(column) => {
+            column.tell_type();
+            Ok(None)
+        }
+    }
+}
+
+// The sums of a column of a flat type, None where its type has none.
+fn flat_sums(
+    name: PlSmallStr,
+    column: &FlatSeries,
+    groups: &GroupPart<'_>,
+) -> PolarsResult<Option<FlatSeries>>
+    requires { AreGroupsOf (column_of column.now) (part_of groups.now) }
+    ensures ok { let lists = lists_in (part_of groups.now) in
+        IfOk result (λ sums. option_map column_of sums
+        ≡ sums_of_column (name_of name) (column_of column.now) lists) }
     ensures err { IfErr result IsNoMemory }
 {
     map_sums!(column, column => column.group_sums(name, groups)?)

@@ -9,10 +9,11 @@ ghost use Rattle.gb_defs.specs.Outcome.{grouped};
 ghost use Rattle.gb_base.specs.PolarsError.{Explains};
 ghost use Rattle.gb_defs.specs.Classes.{groups, rows_below, same_slot};
 ghost use Rattle.gb_defs.specs.Groups.{AreMembers, HasRowNumbers, IsWellFormed, lists_in};
-ghost use Rattle.gb_base.specs.PlSmallStr.{IsNoMemory, name_of};
+ghost use Rattle.gb_base.specs.PlSmallStr.{name_of};
 ghost use Rattle.gb_groups.specs.GroupsType.{groups_of};
+ghost use Rattle.gb_paths.specs.Keys.{key_fault};
 ghost use Rattle.gb_series.specs.Series.{value_of};
-ghost use Rattle.gb_run.specs.Grouping.{aggregates_over, answer_parts, firsts_in, unfit_cause};
+ghost use Rattle.gb_run.specs.Grouping.{aggregates_over, answer_parts, firsts_in, hashed_fault, unfit_cause};
 ghost use Rattle.gb_run.specs.Request.{agg_of, aggs_of};
 ghost use Rattle.gb_run.specs.Text.{contents_of};
 
@@ -24,13 +25,14 @@ use gb_base::pool::Pool;
 use gb_base::small_str::PlSmallStr;
 use gb_cols::series_trait::SeriesTrait;
 use gb_groups::groups_type::GroupsType;
-use gb_paths::into_groups::group_tuples_gated;
+use gb_paths::into_groups::{check_key, group_tuples_gated};
 use gb_series::frame::DataFrame;
 use gb_series::series::Series;
 use std::alloc::Global;
 use std::thread::Threads;
 
-/// The key at the first row of each group, and the aggregates over its rows.
+/// The key at the first row of each group, and the aggregates over its rows. A key without a hash is
+/// refused before all else, but that it must be there.
 pub fn group_frame<R: Threads + Sync, G: Gate + Sync>(
     rt: &R,
     alloc: Global,
@@ -42,8 +44,9 @@ pub fn group_frame<R: Threads + Sync, G: Gate + Sync>(
 ) -> PolarsResult<DataFrame>
     ensures ok { IfOk result (λ answer.
         grouped frame.now (name_of by.now ∷ []) (aggs_of aggs.now) ≡ Ok (map content answer)) }
-    ensures err { IfErr result (λ e.
-        Explains e (result_err (grouped frame.now (name_of by.now ∷ []) (aggs_of aggs.now)))) }
+    ensures err { let name = name_of by.now in
+        let rest = result_err (grouped frame.now (name ∷ []) (aggs_of aggs.now)) in
+        IfErr result (λ e. Explains e (hashed_fault (find_column frame.now name) rest)) }
 {
     let key = frame.column(by.as_str())?;
     group_by_key(rt, alloc, frame, by, key, aggs, pool, gate)
@@ -63,9 +66,11 @@ fn group_by_key<R: Threads + Sync, G: Gate + Sync>(
     requires { find_column frame.now (name_of by.now) ≡ Some (value_of key.now) }
     ensures ok { IfOk result (λ answer.
         grouped frame.now (name_of by.now ∷ []) (aggs_of aggs.now) ≡ Ok (map content answer)) }
-    ensures err { IfErr result (λ e.
-        Explains e (result_err (grouped frame.now (name_of by.now ∷ []) (aggs_of aggs.now)))) }
+    ensures err { let name = name_of by.now in
+        let rest = result_err (grouped frame.now (name ∷ []) (aggs_of aggs.now)) in
+        IfErr result (λ e. Explains e (hashed_fault (Some (value_of key.now)) rest)) }
 {
+    check_key(key)?;
     check_height(frame.height())?;
     check_columns(frame, aggs)?;
     let groups = key_groups(rt, key, pool, gate)?;
@@ -85,7 +90,7 @@ fn key_groups<R: Threads + Sync, G: Gate + Sync>(
         (same_slot (value_of key.now).slots) (rows_below (length (value_of key.now).slots))) }
     ensures formed { IfOk result (λ g.
         IsWellFormed (length (value_of key.now).slots) (groups_of g).pairs) }
-    ensures err { IfErr result IsNoMemory }
+    ensures err { IfErr result (λ e. Explains e (key_fault (value_of key.now))) }
 {
     let multithreaded = true;
     let sorted = true;

@@ -9,6 +9,6 @@ pub mod run;
 pub mod status;
 mod streams;
 pub mod table;
-mod text;
+pub mod text;
 mod type_word;
 mod words;

@@ -3,3 +3,5 @@
 
 #[cfg(test)]
 mod many_rows;
+#[cfg(test)]
+mod nested_text;

@@ -5,7 +5,7 @@ use Rattle.std.specs.Str.{bytes_eq}
 use Rattle.std.proofs.Math.Seq.{take-append_seam}
 use Rattle.std.proofs.lemmas.List.{get_or-map, get_or-take, length-append, length-map, length-take, map-set, set-get_or}
 use Rattle.gb_defs.specs.Column.{ColumnValue, Frame, IsFlagTrue, SortedFlag, UsesAll, all_have_length, first_repeated, frame_height, names_of}
-use Rattle.gb_defs.specs.ColumnType.{ColumnType, Flat, ListOf, ArrayOf, StructOf, Null, Boolean, Unsigned, Signed, Decimal, Date, Time, Datetime, Duration, String, Binary, BinaryOffset, Categorical, Enum}
+use Rattle.gb_defs.specs.ColumnType.{ColumnType, Flat, ListOf, ArrayOf, StructOf}
 use Rattle.gb_defs.specs.Fault as fault
 use Rattle.gb_defs.specs.Slot.{Slot}
 use Rattle.gb_base.specs.Sorted.{flag_of}
@@ -20,24 +20,11 @@ use Rattle.gb_series.proofs.FrameLemmas.{both_true, long_test, long_yes, stored_
 use Rattle.gb_series.proofs.TypeLemmas.{type_back}
 
 -- the codes of a type occur where it is one of categories
-pub uses_categories : (t : ColumnType) (slots : List Slot) → UsesAll t slots → type_variant t ≡ 19
-uses_categories (Flat (Categorical texts ordering)) slots used = refl
-uses_categories (Flat (Enum texts ordering)) slots used = refl
-uses_categories (Flat Null) slots used = absurd used
-uses_categories (Flat Boolean) slots used = absurd used
-uses_categories (Flat (Unsigned w)) slots used = absurd used
-uses_categories (Flat (Signed w)) slots used = absurd used
-uses_categories (Flat (Decimal p s)) slots used = absurd used
-uses_categories (Flat Date) slots used = absurd used
-uses_categories (Flat Time) slots used = absurd used
-uses_categories (Flat (Datetime u)) slots used = absurd used
-uses_categories (Flat (Duration u)) slots used = absurd used
-uses_categories (Flat String) slots used = absurd used
-uses_categories (Flat Binary) slots used = absurd used
-uses_categories (Flat BinaryOffset) slots used = absurd used
-uses_categories (ListOf t) slots used = absurd used
-uses_categories (ArrayOf t n) slots used = absurd used
-uses_categories (StructOf fs) slots used = absurd used
+pub uses_flat : (t : ColumnType) (slots : List Slot) → UsesAll t slots → type_variant t ≡ 0
+uses_flat (Flat t) slots used = refl
+uses_flat (ListOf t) slots used = absurd used
+uses_flat (ArrayOf t n) slots used = absurd used
+uses_flat (StructOf fs) slots used = absurd used
 
 -- ---- one column
 

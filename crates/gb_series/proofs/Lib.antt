@@ -1,6 +1,14 @@
 pub mod AppendLemmas
+pub mod ArrayLemmas
 pub mod ChunkLemmas
 pub mod ColumnLemmas
+pub mod FieldLemmas
 pub mod FrameLemmas
+pub mod ListLemmas
 pub mod NameLemmas
+pub mod PieceLemmas
+pub mod ResultLemmas
+pub mod RowLemmas
+pub mod StructLemmas
+pub mod TextLemmas
 pub mod TypeLemmas

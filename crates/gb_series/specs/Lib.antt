@@ -1,5 +1,12 @@
 pub mod Append
+pub mod Arrays
+pub mod Depth
+pub mod Falls
 pub mod Frame
+pub mod Nulls
+pub mod Rows
 pub mod Series
+pub mod Structs
+pub mod Text
 pub mod Value
 pub mod Variant

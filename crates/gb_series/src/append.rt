@@ -1,36 +1,20 @@
 //! The columns of a frame behind those of another, all of them or none.
 
-ghost use Rattle.std.specs.Prelude.{◌≡◌, ◌↔◌, true, length, map, IsTrue, None, Some, IfOk, IfErr, IfSome, IfNone, OnOk, OnErr};
-ghost use Rattle.std.specs.Str.{bytes_eq};
+ghost use Rattle.std.specs.Prelude.{◌≡◌, true, length, map, None, Some, IfErr, IfSome, IfNone, IfOk, OnOk, OnErr};
 ghost use Rattle.gb_defs.specs.Column.{UsesAll};
 ghost use Rattle.gb_defs.specs.Fault.{SchemaMismatch};
-ghost use Rattle.gb_base.specs.DataType.{unit_of};
 ghost use Rattle.gb_base.specs.PlSmallStr.{IsNoMemory};
 ghost use Rattle.gb_base.specs.PolarsError.{Explains};
 ghost use Rattle.gb_series.specs.Append.{AreMarksOf, CanAppend, CanUndo, CanUndoFrom, IsMarkOf, append_fault, appended_frame, are_named_alike as are_all_named_alike, type_fault, undone, undone_from};
 ghost use Rattle.gb_series.specs.Series.{value_of};
-ghost use Rattle.gb_series.specs.Variant.{variant_of};
 
-use crate::of_column;
+use crate::same_type::{same_name, same_type};
 use crate::series::Series;
-use gb_base::data_type::{IsSorted, TimeUnit};
+use gb_base::data_type::IsSorted;
 use gb_base::error::{PolarsError, PolarsResult};
-use gb_base::rev_mapping::RevMapping;
 use gb_cols::series_trait::SeriesTrait;
 use gb_cols::undo_append::UndoAppend;
-use gb_logical::categorical::CategoricalChunked;
-use gb_logical::logical::DecimalKind;
 use std::alloc::Global;
-
-impl UndoAppend for Series {
-    fn uses_all(&self) -> bool {
-        of_column!(self, column => column.uses_all())
-    }
-
-    fn keep_chunks(&mut self, count: usize) {
-        of_column!(self, column => column.keep_chunks(count))
-    }
-}
 
 // What a column is taken back to: its chunks, so many, and its flags.
 #[derive(Clone, Copy)]
@@ -66,107 +50,17 @@ fn undo(column: &mut Series, mark: Mark)
 }
 
 // Notes that every code of a column of categories occurs.
-#[tactic(auto, using(crate::proofs::AppendLemmas::uses_categories))]
+#[tactic(auto, using(crate::proofs::AppendLemmas::uses_flat))]
 fn note_all_used(column: &mut Series)
     requires { let c = value_of column.old in UsesAll c.dtype c.slots }
     ensures { value_of column.new ≡ record (value_of column.old) { all_used = true } }
 {
     column.tell_variant();
     match column {
-        Series::Categorical(column) => column.set_all_used(),
+        Series::Flat(column) => column.note_all_used(),
         // No other type has codes.
         _ => unreachable!(),
     }
-}
-
-// ---- types
-
-// Whether two columns have one type.
-#[tactic(auto, using(crate::proofs::TypeLemmas::plain_same))]
-fn same_type(a: &Series, b: &Series) -> bool
-    ensures { IsTrue result ↔ ((value_of a.now).dtype ≡ (value_of b.now).dtype) }
-{
-    a.tell_variant();
-    b.tell_variant();
-    match a {
-        Series::Decimal(a) => match b {
-            Series::Decimal(b) => same_decimals(a.kind(), b.kind()),
-            _ => false,
-        },
-        Series::Datetime(a) => match b {
-            Series::Datetime(b) => same_unit(a.kind().unit, b.kind().unit),
-            _ => false,
-        },
-        Series::Duration(a) => match b {
-            Series::Duration(b) => same_unit(a.kind().unit, b.kind().unit),
-            _ => false,
-        },
-        Series::Categorical(a) => match b {
-            Series::Categorical(b) => same_categories(a, b),
-            _ => false,
-        },
-        _ => variant_number(a) == variant_number(b),
-    }
-}
-
-// Which variant a series is.
-fn variant_number(series: &Series) -> u8
-    ensures { result ≡ variant_of series.now }
-{
-    match series {
-        Series::Null(_) => 0,
-        Series::Boolean(_) => 1,
-        Series::UInt8(_) => 2,
-        Series::UInt16(_) => 3,
-        Series::UInt32(_) => 4,
-        Series::UInt64(_) => 5,
-        Series::Int8(_) => 6,
-        Series::Int16(_) => 7,
-        Series::Int32(_) => 8,
-        Series::Int64(_) => 9,
-        Series::Int128(_) => 10,
-        Series::Decimal(_) => 11,
-        Series::Date(_) => 12,
-        Series::Datetime(_) => 13,
-        Series::Duration(_) => 14,
-        Series::Time(_) => 15,
-        Series::String(_) => 16,
-        Series::Binary(_) => 17,
-        Series::BinaryOffset(_) => 18,
-        Series::Categorical(_) => 19,
-    }
-}
-
-// Whether decimals have one precision and one scale.
-fn same_decimals(a: DecimalKind, b: DecimalKind) -> bool
-    ensures { IsTrue result ↔ ((a.precision ≡ b.precision) × (a.scale ≡ b.scale)) }
-{
-    a.precision == b.precision && a.scale == b.scale
-}
-
-// Whether times are counted in one unit.
-#[tactic(auto, using(crate::proofs::TypeLemmas::unit_same))]
-fn same_unit(a: TimeUnit, b: TimeUnit) -> bool
-    ensures { IsTrue result ↔ (unit_of a ≡ unit_of b) }
-{
-    a == b
-}
-
-// Whether categories have the same texts, and are of one order and one kind.
-#[tactic(auto, using(crate::proofs::TypeLemmas::categories_same))]
-fn same_categories(a: &CategoricalChunked, b: &CategoricalChunked) -> bool
-    ensures { IsTrue result ↔ (a.now.dtype ≡ b.now.dtype) }
-{
-    a.is_enum() == b.is_enum()
-        && a.uses_lexical_ordering() == b.uses_lexical_ordering()
-        && same_texts(a.get_rev_map(), b.get_rev_map())
-}
-
-// Whether categories have the same texts in the same order.
-fn same_texts(a: &RevMapping, b: &RevMapping) -> bool
-    ensures { IsTrue result ↔ (a.now ≡ b.now) }
-{
-    *a == *b
 }
 
 // ---- why columns are not put behind others
@@ -201,13 +95,6 @@ fn are_named_alike(columns: &[Series], others: &[Series]) -> bool
         }
     }
     true
-}
-
-// Whether two columns have one name.
-fn same_name(a: &Series, b: &Series) -> bool
-    ensures { result ≡ bytes_eq (value_of a.now).name (value_of b.now).name }
-{
-    a.name().as_str() == b.name().as_str()
 }
 
 // The first column that has another type than that of the others at its place.

@@ -256,7 +256,7 @@ fn height_of(columns: &Vec<Series>) -> usize
 }
 
 // Whether all columns have a length.
-fn all_have_length(columns: &[Series], height: usize) -> bool
+pub(crate) fn all_have_length(columns: &[Series], height: usize) -> bool
     ensures { result ≡ are_all_long height (map value_of columns.now) }
 {
     for column in columns {
@@ -268,7 +268,7 @@ fn all_have_length(columns: &[Series], height: usize) -> bool
 }
 
 // The first name that stood before.
-fn repeated_name(columns: &Vec<Series>) -> PolarsResult<Option<&PlSmallStr>>
+pub(crate) fn repeated_name(columns: &Vec<Series>) -> PolarsResult<Option<&PlSmallStr>>
     ensures ok { let names = names_of (map value_of columns.now.items) in
         IfOk result (λ name. option_map (λ n. name_of n.now) name ≡ first_repeated names) }
     ensures err { IfErr result IsNoMemory }

@@ -1,70 +1,38 @@
 //! Series made by their type.
 
-ghost use Rattle.std.specs.Prelude.{◌≡◌, ◌<◌, ◌^◌, [], Some, replicate, IfOk, IfErr};
+ghost use Rattle.std.specs.Prelude.{◌≡◌, ◌<◌, ◌^◌, [], None, map, replicate, IfOk, IfErr};
 ghost use Rattle.gb_defs.specs.Column.{fresh_column};
-ghost use Rattle.gb_defs.specs.ColumnType.{Decimal, Flat};
+ghost use Rattle.gb_defs.specs.ColumnType.{ArrayOf, ListOf, StructOf};
 ghost use Rattle.gb_defs.specs.Slot.{Nil};
-ghost use Rattle.gb_base.specs.DataType.{type_of};
+ghost use Rattle.gb_base.specs.DataType.{fields_of, part_of, type_of};
 ghost use Rattle.gb_base.specs.PlSmallStr.{IsNoMemory, name_of};
-ghost use Rattle.gb_series.specs.Series.{HasNulls, value_of};
+ghost use Rattle.gb_series.specs.Nulls.{ArePartsOfNulls, HasNulls, empty_part};
+ghost use Rattle.gb_series.specs.Series.{value_of};
+ghost use Rattle.gb_series.specs.Structs.{struct_fault, struct_type};
 
+use crate::nested::array::ArrayChunked;
+use crate::nested::list::ListChunked;
+use crate::nested::structs::StructChunked;
 use crate::series::Series;
 use gb_base::data_type::DataType;
-use gb_base::error::PolarsResult;
+use gb_base::error::{PolarsError, PolarsResult};
+use gb_base::field::Field;
 use gb_base::small_str::PlSmallStr;
-use gb_cols::chunked::ChunkedArray;
-use gb_cols::null::NullChunked;
-use gb_logical::categorical::CategoricalChunked;
-use gb_logical::logical::{
-    DateChunked, DatetimeChunked, DecimalChunked, DurationChunked, TimeChunked,
-};
+use gb_cols::series_trait::SeriesTrait;
+use gb_flat_series::series::FlatSeries;
 use std::alloc::Global;
-use std::sync::Arc;
 
 impl Series {
-    ghost use Rattle.gb_series.specs.Series.{HasColumn, HasNulls, value_of};
+    ghost use Rattle.gb_series.specs.Nulls.{HasNulls};
+    ghost use Rattle.gb_flat_series.specs.FlatSeries.{HasColumn};
+    ghost use Rattle.gb_series.specs.Series.{value_of};
 
     /// A column with no slots.
-    #[tactic(auto, using(crate::proofs::ColumnLemmas::no_list, crate::proofs::ColumnLemmas::no_array, crate::proofs::ColumnLemmas::no_struct,))]
     pub fn new_empty(alloc: Global, name: PlSmallStr, dtype: DataType) -> Series
         requires { HasColumn dtype }
         ensures { value_of result ≡ fresh_column (name_of name) (type_of dtype) [] }
     {
-        match dtype {
-            DataType::Null => Series::Null(NullChunked::new(alloc, name, 0)),
-            DataType::Boolean => Series::Boolean(ChunkedArray::new(alloc, name)),
-            DataType::UInt8 => Series::UInt8(ChunkedArray::new(alloc, name)),
-            DataType::UInt16 => Series::UInt16(ChunkedArray::new(alloc, name)),
-            DataType::UInt32 => Series::UInt32(ChunkedArray::new(alloc, name)),
-            DataType::UInt64 => Series::UInt64(ChunkedArray::new(alloc, name)),
-            DataType::Int8 => Series::Int8(ChunkedArray::new(alloc, name)),
-            DataType::Int16 => Series::Int16(ChunkedArray::new(alloc, name)),
-            DataType::Int32 => Series::Int32(ChunkedArray::new(alloc, name)),
-            DataType::Int64 => Series::Int64(ChunkedArray::new(alloc, name)),
-            DataType::Int128 => Series::Int128(ChunkedArray::new(alloc, name)),
-            DataType::Decimal(precision, scale) => match scale {
-                Some(scale) => Series::Decimal(decimals(alloc, name, precision, scale)),
-                None => unreachable!(),
-            },
-            DataType::Date => Series::Date(DateChunked::new(ChunkedArray::new(alloc, name))),
-            DataType::Datetime(unit) => {
-                Series::Datetime(DatetimeChunked::new(ChunkedArray::new(alloc, name), unit))
-            }
-            DataType::Duration(unit) => {
-                Series::Duration(DurationChunked::new(ChunkedArray::new(alloc, name), unit))
-            }
-            DataType::Time => Series::Time(TimeChunked::new(ChunkedArray::new(alloc, name))),
-            DataType::String => Series::String(ChunkedArray::new(alloc, name)),
-            DataType::Binary => Series::Binary(ChunkedArray::new(alloc, name)),
-            DataType::BinaryOffset => Series::BinaryOffset(ChunkedArray::new(alloc, name)),
-            // Texts become categories as a whole.
-            DataType::Categorical(_, _) => unreachable!(),
-            DataType::Enum(_, _) => unreachable!(),
-            // No column has parts today.
-            DataType::List(_) => unreachable!(),
-            DataType::Array(_, _) => unreachable!(),
-            DataType::Struct(_) => unreachable!(),
-        }
+        Series::Flat(FlatSeries::new_empty(alloc, name, dtype))
     }
 
     /// So many nulls, in one chunk.
@@ -85,7 +53,8 @@ impl Series {
 }
 
 // So many nulls of a type that is only lent, in one chunk.
-#[tactic(auto, using(crate::proofs::ColumnLemmas::no_nulls_in_list, crate::proofs::ColumnLemmas::no_nulls_in_array, crate::proofs::ColumnLemmas::no_nulls_in_struct,))]
+#[cycle(nulls)]
+#[tactic(auto, using(crate::proofs::ColumnLemmas::nulls_in_lists, crate::proofs::ColumnLemmas::nulls_in_arrays, crate::proofs::ColumnLemmas::nulls_in_structs, gb_base::proofs::DataTypeLemmas::list_type, gb_base::proofs::DataTypeLemmas::array_type, gb_base::proofs::DataTypeLemmas::struct_type))]
 fn nulls_of(alloc: Global, name: PlSmallStr, len: usize, dtype: &DataType) -> PolarsResult<Series>
     requires column { HasNulls dtype.now }
     requires few { len < 2 ^ 63 }
@@ -94,71 +63,113 @@ fn nulls_of(alloc: Global, name: PlSmallStr, len: usize, dtype: &DataType) -> Po
     ensures err { IfErr result IsNoMemory }
 {
     match dtype {
-        DataType::Null => Ok(Series::Null(NullChunked::new(alloc, name, len))),
-        DataType::Boolean => Ok(Series::Boolean(ChunkedArray::full_null(alloc, name, len)?)),
-        DataType::UInt8 => Ok(Series::UInt8(ChunkedArray::full_null(alloc, name, len)?)),
-        DataType::UInt16 => Ok(Series::UInt16(ChunkedArray::full_null(alloc, name, len)?)),
-        DataType::UInt32 => Ok(Series::UInt32(ChunkedArray::full_null(alloc, name, len)?)),
-        DataType::UInt64 => Ok(Series::UInt64(ChunkedArray::full_null(alloc, name, len)?)),
-        DataType::Int8 => Ok(Series::Int8(ChunkedArray::full_null(alloc, name, len)?)),
-        DataType::Int16 => Ok(Series::Int16(ChunkedArray::full_null(alloc, name, len)?)),
-        DataType::Int32 => Ok(Series::Int32(ChunkedArray::full_null(alloc, name, len)?)),
-        DataType::Int64 => Ok(Series::Int64(ChunkedArray::full_null(alloc, name, len)?)),
-        DataType::Int128 => Ok(Series::Int128(ChunkedArray::full_null(alloc, name, len)?)),
-        DataType::Decimal(precision, scale) => {
-            let Some(scale) = *scale else { unreachable!() };
-            let nulls = ChunkedArray::full_null(alloc, name, len)?;
-            Ok(Series::Decimal(DecimalChunked::new(nulls, *precision, scale)))
+        DataType::List(items) => {
+            let items = nulls_of(alloc, PlSmallStr::from_str(alloc, "")?, 0, items)?;
+            Ok(null_lists(alloc, name, len, items)?)
         }
-        DataType::Date => {
-            let nulls = ChunkedArray::full_null(alloc, name, len)?;
-            Ok(Series::Date(DateChunked::new(nulls)))
+        DataType::Array(items, width) => {
+            let items = nulls_of(alloc, PlSmallStr::from_str(alloc, "")?, 0, items)?;
+            Ok(null_arrays(alloc, name, len, items, *width)?)
         }
-        DataType::Datetime(unit) => {
-            let nulls = ChunkedArray::full_null(alloc, name, len)?;
-            Ok(Series::Datetime(DatetimeChunked::new(nulls, *unit)))
+        DataType::Struct(fields) => {
+            let parts = empty_parts(alloc, fields)?;
+            Ok(null_structs(alloc, name, len, parts)?)
         }
-        DataType::Duration(unit) => {
-            let nulls = ChunkedArray::full_null(alloc, name, len)?;
-            Ok(Series::Duration(DurationChunked::new(nulls, *unit)))
-        }
-        DataType::Time => {
-            let nulls = ChunkedArray::full_null(alloc, name, len)?;
-            Ok(Series::Time(TimeChunked::new(nulls)))
-        }
-        DataType::String => Ok(Series::String(ChunkedArray::full_null(alloc, name, len)?)),
-        DataType::Binary => Ok(Series::Binary(ChunkedArray::full_null(alloc, name, len)?)),
-        DataType::BinaryOffset => {
-            Ok(Series::BinaryOffset(ChunkedArray::full_null(alloc, name, len)?))
-        }
-        DataType::Categorical(map, ordering) => {
-            let Some(map) = map else { unreachable!() };
-            let map = Arc::try_clone(map)?;
-            let nulls = CategoricalChunked::full_null(alloc, name, len, map, *ordering, false)?;
-            Ok(Series::Categorical(nulls))
-        }
-        DataType::Enum(map, ordering) => {
-            let Some(map) = map else { unreachable!() };
-            let map = Arc::try_clone(map)?;
-            let nulls = CategoricalChunked::full_null(alloc, name, len, map, *ordering, true)?;
-            Ok(Series::Categorical(nulls))
-        }
-        // No column has parts today.
-        DataType::List(_) => unreachable!(),
-        DataType::Array(_, _) => unreachable!(),
-        DataType::Struct(_) => unreachable!(),
+        _ => Ok(Series::Flat(FlatSeries::full_null(alloc, name, len, dtype)?)),
     }
 }
 
-// A column of decimals with no slots.
-fn decimals(
+// So many null lists, of items that an empty column tells the type of.
+fn null_lists(alloc: Global, name: PlSmallStr, len: usize, items: Series) -> PolarsResult<Series>
+    requires empty { (value_of items).slots ≡ [] }
+    requires few { len < 2 ^ 63 }
+    ensures ok { let dtype = ListOf (value_of items).dtype in IfOk result
+        (λ c. value_of c ≡ fresh_column (name_of name) dtype (replicate len Nil)) }
+    ensures err { IfErr result IsNoMemory }
+{
+    let column = Series::from_lists(ListChunked::new(alloc, name, items))?;
+    Ok(with_nulls(column, len)?)
+}
+
+// So many null arrays, of items that an empty column tells the type of.
+fn null_arrays(
     alloc: Global,
     name: PlSmallStr,
-    precision: Option<usize>,
-    scale: usize,
-) -> DecimalChunked
-    ensures { let dtype = Flat (Decimal precision (Some scale)) in
-        result ≡ fresh_column (name_of name) dtype [] }
+    len: usize,
+    items: Series,
+    width: usize,
+) -> PolarsResult<Series>
+    requires empty { (value_of items).slots ≡ [] }
+    requires few { len < 2 ^ 63 }
+    ensures ok { let dtype = ArrayOf (value_of items).dtype width in IfOk result
+        (λ c. value_of c ≡ fresh_column (name_of name) dtype (replicate len Nil)) }
+    ensures err { IfErr result IsNoMemory }
 {
-    DecimalChunked::new(ChunkedArray::new(alloc, name), precision, scale)
+    let column = Series::from_arrays(ArrayChunked::new(alloc, name, items, width))?;
+    Ok(with_nulls(column, len)?)
+}
+
+// So many null structs, of parts that are empty.
+fn null_structs(
+    alloc: Global,
+    name: PlSmallStr,
+    len: usize,
+    parts: Vec<Series>,
+) -> PolarsResult<Series>
+    requires parts { struct_fault 0 (map value_of parts.items) ≡ None }
+    requires few { len < 2 ^ 63 }
+    ensures ok { let dtype = struct_type (map value_of parts.items) in IfOk result
+        (λ c. value_of c ≡ fresh_column (name_of name) dtype (replicate len Nil)) }
+    ensures err { IfErr result IsNoMemory }
+{
+    let column = Series::from_structs(empty_structs(alloc, name, parts)?)?;
+    Ok(with_nulls(column, len)?)
+}
+
+// The columns of a struct's parts, with no slots.
+#[cycle(nulls)]
+fn empty_parts(alloc: Global, fields: &Vec<Field>) -> PolarsResult<Vec<Series>>
+    requires { ArePartsOfNulls fields.now.items }
+    ensures ok { IfOk result
+        (λ made. map value_of made.items ≡ map empty_part fields.now.items) }
+    ensures sound { IfOk result (λ made. struct_fault 0 (map value_of made.items) ≡ None) }
+    ensures typed { let dtype = StructOf (fields_of (map part_of fields.now.items)) in
+        IfOk result (λ made. struct_type (map value_of made.items) ≡ dtype) }
+    ensures err { IfErr result IsNoMemory }
+{
+    let mut made = Vec::with_capacity(alloc, fields.len())?;
+    for field in fields {
+        made.push(nulls_of(alloc, field.name.try_clone()?, 0, &field.dtype)?)?;
+    }
+    Ok(made)
+}
+
+// A column of structs with no slots.
+fn empty_structs(alloc: Global, name: PlSmallStr, parts: Vec<Series>) -> PolarsResult<StructChunked>
+    requires { struct_fault 0 (map value_of parts.items) ≡ None }
+    ensures ok { let dtype = struct_type (map value_of parts.items) in
+        IfOk result (λ c. c ≡ fresh_column (name_of name) dtype []) }
+    ensures err { IfErr result IsNoMemory }
+{
+    match StructChunked::from_fields(name, Vec::new(alloc), parts) {
+        Ok(column) => Ok(column),
+        // No other cause is left.
+        Err(_) => Err(PolarsError::NoMemory),
+    }
+}
+
+// So many nulls in a column that has no slots.
+#[tactic(auto, using(crate::proofs::ColumnLemmas::fresh_pushed))]
+fn with_nulls(column: Series, len: usize) -> PolarsResult<Series>
+    requires empty { let c = value_of column in c ≡ fresh_column c.name c.dtype [] }
+    requires few { len < 2 ^ 63 }
+    ensures ok { let c = value_of column in
+        IfOk result (λ made. value_of made ≡ fresh_column c.name c.dtype (replicate len Nil)) }
+    ensures err { IfErr result IsNoMemory }
+{
+    let mut made = column;
+    for _ in 0..len {
+        made.push_null()?;
+    }
+    Ok(made)
 }

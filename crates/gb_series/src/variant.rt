@@ -1,76 +1,38 @@
 //! What the variant of a series tells of its type.
 
+ghost use Rattle.std.specs.Prelude.{◌↔◌, IsTrue};
+
 use crate::series::Series;
-use gb_cols::series_trait::SeriesTrait;
 
 impl Series {
+    ghost use Rattle.gb_flat_series.specs.FlatSeries.{IsFlat};
+    ghost use Rattle.gb_series.specs.Series.{value_of};
     ghost use Rattle.gb_series.specs.Variant.{IsOfVariant};
 
-    // The type tells the variant: what is called tells the column's type.
-    pub(crate) fn tell_variant(&self)
+    /// The type tells the variant: what is called tells the column's type.
+    #[tactic(auto, using(crate::proofs::TypeLemmas::flat_variant))]
+    pub fn tell_variant(&self)
         ensures { IsOfVariant self.now }
     {
         match self {
-            Series::Null(column) => {
-                let _ = column.allocator();
-            }
-            Series::Boolean(column) => {
-                let _ = column.name();
-            }
-            Series::UInt8(column) => {
-                let _ = column.name();
-            }
-            Series::UInt16(column) => {
-                let _ = column.name();
-            }
-            Series::UInt32(column) => {
-                let _ = column.name();
-            }
-            Series::UInt64(column) => {
-                let _ = column.name();
-            }
-            Series::Int8(column) => {
-                let _ = column.name();
-            }
-            Series::Int16(column) => {
-                let _ = column.name();
-            }
-            Series::Int32(column) => {
-                let _ = column.name();
-            }
-            Series::Int64(column) => {
-                let _ = column.name();
-            }
-            Series::Int128(column) => {
-                let _ = column.name();
-            }
-            Series::Decimal(column) => {
-                let _ = column.kind();
-            }
-            Series::Date(column) => {
-                let _ = column.kind();
-            }
-            Series::Datetime(column) => {
-                let _ = column.kind();
-            }
-            Series::Duration(column) => {
-                let _ = column.kind();
-            }
-            Series::Time(column) => {
-                let _ = column.kind();
-            }
-            Series::String(column) => {
-                let _ = column.name();
-            }
-            Series::Binary(column) => {
-                let _ = column.name();
-            }
-            Series::BinaryOffset(column) => {
-                let _ = column.name();
-            }
-            Series::Categorical(column) => {
-                let _ = column.get_rev_map();
-            }
+            Series::Flat(column) => column.tell_flat(),
+            Series::List(column) => column.tell_type(),
+            Series::Array(column) => column.tell_type(),
+            Series::Struct(column) => column.tell_type(),
+        }
+    }
+
+    /// Whether its slots have an order: its type holds no others.
+    #[tactic(auto, using(crate::proofs::TypeLemmas::flat_or_not))]
+    pub fn has_order(&self) -> bool
+        ensures { IsTrue result ↔ IsFlat (value_of self.now).dtype }
+    {
+        self.tell_variant();
+        match self {
+            Series::Flat(_) => true,
+            Series::List(_) => false,
+            Series::Array(_) => false,
+            Series::Struct(_) => false,
         }
     }
 }

@@ -24,7 +24,8 @@ use gb_numbers::numeric::{
     Int8Type, Int16Type, Int32Type, Int64Type, Int128Type, UInt8Type, UInt16Type, UInt32Type,
     UInt64Type,
 };
-use gb_series::series::{IntoSeries, Series};
+use gb_series::into_series::IntoSeries;
+use gb_series::series::Series;
 use gb_values::binary::{Binary, BinaryOffset};
 use gb_values::boolean::FlagValues;
 use gb_values::bytes::ByteValues;
@@ -396,7 +397,10 @@ fn is_below<T: TotalOrd + Copy>(a: T, b: T) -> bool {
 // Whether a null comes before a value, or behind it.
 fn is_by_null<T: TotalOrd + Copy>(value: T) -> bool {
     let value = Some(value);
-    value.null_order_cmp(&None, false) == Ordering::Greater
+    let null: Option<T> = None;
+    null.null_order_cmp(&value, false) == Ordering::Less
+        && null.null_order_cmp(&value, true) == Ordering::Greater
+        && value.null_order_cmp(&None, false) == Ordering::Greater
         && value.null_order_cmp(&None, true) == Ordering::Less
         && !value.tot_eq(&None)
 }

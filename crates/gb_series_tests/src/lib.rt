@@ -5,4 +5,6 @@
 #[cfg(test)]
 mod compare;
 #[cfg(test)]
+mod frames;
+#[cfg(test)]
 mod series;

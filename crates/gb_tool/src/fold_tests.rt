@@ -6,6 +6,7 @@ ghost use Rattle.gb_groups.specs.GroupsType.{groups_of};
 
 use gb_base::small_str::PlSmallStr;
 use gb_cols::primitive::Int64Chunked;
+use gb_flat_series::series::FlatSeries;
 use gb_groups::groups_slice::GroupsSlice;
 use gb_groups::groups_type::GroupsType;
 use gb_numbers::numeric::PolarsNumericType;
@@ -61,7 +62,7 @@ fn rows_are_folded(rt: HostRuntime) -> Result<(), Fail> {
     assert_eq!(rt; SumOf::new(&column).over(&RowList::new(&[0, 1])), Some(7));
     assert_eq!(rt; SumOf::new(&column).over(&RowList::new(&[])), Some(0));
     assert_eq!(rt; RowCount.over(&RowList::new(&[0, 1])), Some(2));
-    let column = Series::Int64(column);
+    let column = Series::Flat(FlatSeries::Int64(column));
     assert_eq!(rt;
         ValidCount::new(&column).over(&RowList::new(&[0, 1])),
         Some(1)
@@ -76,7 +77,7 @@ fn runs_are_folded(rt: HostRuntime) -> Result<(), Fail> {
     let column = two_slots(rt.alloc())?;
     assert!(rt; makes(&SumOf::new(&column), &groups, &[Some(7), Some(0), Some(0)]));
     assert!(rt; makes(&RowCount, &groups, &[Some(2), Some(1), Some(0)]));
-    let column = Series::Int64(column);
+    let column = Series::Flat(FlatSeries::Int64(column));
     assert!(rt;
         makes(
             &ValidCount::new(&column),

@@ -21,7 +21,8 @@ use gb_base::small_str::PlSmallStr;
 use gb_cols::chunked::{ChunkedArray, StringChunked};
 use gb_cols::series_trait::SeriesTrait;
 use gb_logical::categorical::CategoricalChunked;
-use gb_series::series::{IntoSeries, Series};
+use gb_series::into_series::IntoSeries;
+use gb_series::series::Series;
 use std::alloc::{AllocError, Global};
 use std::marker::Model;
 

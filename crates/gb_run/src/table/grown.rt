@@ -18,7 +18,8 @@ use gb_base::data_type::CategoricalOrdering;
 use gb_cols::chunked::StringChunked;
 use gb_cols::series_trait::SeriesTrait;
 use gb_logical::categorical::builder::CategoricalBuilder;
-use gb_series::series::{IntoSeries, Series};
+use gb_series::into_series::IntoSeries;
+use gb_series::series::Series;
 use std::alloc::AllocError;
 use std::marker::Model;
 

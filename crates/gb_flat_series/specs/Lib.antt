@@ -1,0 +1,3 @@
+pub mod FlatSeries
+pub mod Value
+pub mod Variant

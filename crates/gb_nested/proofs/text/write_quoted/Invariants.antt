@@ -1,7 +1,0 @@
-use Rattle.std.proofs.Common.{◌≡◌, ◌++◌, ◌∷◌, take}
-use Rattle.std.specs.List.{flat_map}
-use Rattle.gb_nested.specs.Text.{escaped}
-use Rattle.gb_nested.proofs.text.write_quoted.Given as goal
-
-abbrev pub invariant-loop-byte : goal.invariant-loop-byte
-invariant-loop-byte l = l.to.items ≡ l.fn.to.items ++ (34 ∷ flat_map escaped (take l.byte-index l.text))

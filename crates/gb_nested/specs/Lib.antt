@@ -1,4 +1,0 @@
-pub mod Rows
-pub mod Series
-pub mod Text
-pub mod Arrays

@@ -1,0 +1,7 @@
+-- What an error leaves.
+use Rattle.std.specs.Prelude.{OnErr, Result, Ok, Err}
+
+-- what holds anyway holds if there is an error
+pub on_err : {T E P : Type 0} (r : Result T E) → P → OnErr r P
+on_err (Ok x) p = tt
+on_err (Err e) p = p
