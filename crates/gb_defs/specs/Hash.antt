@@ -3,8 +3,9 @@
 use Rattle.std.specs.Prelude.{ℕ, zero, suc, ℤ, ◌+◌, ◌*◌, ◌/◌, ◌%◌, ◌^◌, List, [], ◌∷◌, length, drop, bit_xor}
 use Rattle.std.specs.List.{fold}
 use Rattle.std.specs.Int.{Width, w64, w128, cast_unsigned, from_le_bytes, div_ceil}
-use Rattle.gb_defs.specs.Slot.{Slot, Nil, Num, Bytes, Items}
-use Rattle.gb_defs.specs.ColumnType.{ColumnType, Flat, Unsigned, Signed, Decimal}
+use Rattle.gb_defs.specs.Slot.{Slot, Nil, Num, Bytes, Items, slot_at}
+use Rattle.gb_defs.specs.ColumnType.{ColumnType, Flat, Null, Boolean, Unsigned, Signed, Decimal, String, Binary, BinaryOffset}
+use Rattle.gb_defs.specs.Column.{ColumnValue, Frame}
 
 -- x xor (x >> k)
 abbrev pub fold_down : ℕ → ℕ → ℕ
@@ -74,6 +75,33 @@ folded_multiply a b = bit_xor (a * b % 2 ^ 64) (a * b / 2 ^ 64)
 -- the hash l with the hash r behind it: l xor (r + 0x9e3779b9 + (l << 6) + (r >> 2))
 unfoldable pub boost_combine : ℕ → ℕ → ℕ
 boost_combine l r = bit_xor l ((r + 0x9e3779b9 + l * 2 ^ 6 + r / 2 ^ 2) % 2 ^ 64)
+
+-- the hash h of a column of numbers with the hash r of the columns before it
+abbrev pub multiply_combine : ℕ → ℕ → ℕ
+multiply_combine h r = folded_multiply (bit_xor h (folded_multiply r 6364136223846793005)) 6364136223846793005
+
+-- how the hash of a column of this type is put to the hash of those before it
+abbrev pub combine_of : ColumnType → ℕ → ℕ → ℕ
+combine_of (Flat Null) h r = boost_combine h r
+combine_of (Flat Boolean) h r = boost_combine h r
+combine_of (Flat String) h r = boost_combine h r
+combine_of (Flat Binary) h r = boost_combine h r
+combine_of (Flat BinaryOffset) h r = boost_combine h r
+combine_of _ h r = multiply_combine h r
+
+-- the hash of a column's slot at a row
+abbrev pub cell_hash : ℕ → (ℕ → ℕ) → ℕ → ColumnValue → ℕ
+cell_hash seed mix row c = hash_of (hash_width c.dtype) seed mix (slot_at c.slots row)
+
+-- the hash r of the columns before, with those of these columns
+abbrev pub hash_behind : ℕ → (ℕ → ℕ) → ℕ → ℕ → Frame → ℕ
+hash_behind seed mix row r [] = r
+hash_behind seed mix row r (c ∷ cs) = hash_behind seed mix row (combine_of c.dtype (cell_hash seed mix row c) r) cs
+
+-- the hash of a row: that of its first slot, with each later one
+abbrev pub row_hash : ℕ → (ℕ → ℕ) → Frame → ℕ → ℕ
+row_hash seed mix [] row = 0
+row_hash seed mix (c ∷ cs) row = hash_behind seed mix row (cell_hash seed mix row c) cs
 
 -- the partition of a hash among n: the hash as a fraction of 2 ^ 64, scaled to n
 unfoldable pub partition_of : ℕ → ℕ → ℕ

@@ -9,6 +9,7 @@ pub mod Fold
 pub mod Flat
 pub mod Groups
 pub mod Hash
+pub mod RowBytes
 pub mod Partitions
 pub mod Rows
 pub mod Path

@@ -1,13 +1,13 @@
 -- Requests, columns and slots of the worked rows.
 use Rattle.std.specs.Prelude.{ℕ, Bool, true, List, [], ◌∷◌, Option, Some, None, codes, negsuc, pos, ◌^◌, ◌-◌, replicate}
-use Rattle.std.specs.Int.{w64}
-use Rattle.gb_defs.specs.Slot.{Slot, Nil, Num, Bytes, slot_at}
-use Rattle.gb_defs.specs.ColumnType.{CategoricalOrdering, ColumnType, Categorical, Decimal, Enum, Flat, Lexical, int64, text}
+use Rattle.std.specs.Int.{w8, w64}
+use Rattle.gb_defs.specs.Slot.{And, Bytes, End, Items, Nil, Num, Slot, slot_at}
+use Rattle.gb_defs.specs.ColumnType.{CategoricalOrdering, ColumnType, Categorical, Decimal, Enum, Flat, Lexical, Unsigned, int64, text}
 use Rattle.gb_defs.specs.Column.{ColumnValue, Frame, SortedFlag, fresh_column}
 use Rattle.gb_defs.specs.Cell.{cell_slot}
 use Rattle.gb_defs.specs.CellText.{cell_text}
 use Rattle.gb_defs.specs.Classes.{rows_below, same_slot}
-use Rattle.gb_defs.specs.Hash.{hash_of}
+use Rattle.gb_defs.specs.Hash.{hash_of, row_hash}
 use Rattle.gb_defs.specs.Partitions.{threaded_groups}
 use Rattle.gb_defs.specs.Path.{Path, path_of}
 use Rattle.gb_defs.specs.Fold.{Method, Sum, Count, fold_of}
@@ -108,3 +108,21 @@ one_row = fresh_column (codes "k") int64 (Num (pos 1) ∷ []) ∷ fresh_column (
 -- a key of so many rows of null
 abbrev pub key_of : ℕ → ColumnValue
 key_of count = fresh_column (codes "k") int64 (replicate count Nil)
+
+-- ---- bytes and hashes of rows
+
+-- the flags true and null in a list
+abbrev pub pair_of : Slot
+pair_of = Items (And (Num (pos 1)) (And Nil End))
+
+-- the number 4 beside the text a, and two nulls
+abbrev pub four_beside_text : Frame
+four_beside_text = fresh_column (codes "n") (Flat (Unsigned w8)) (Num (pos 4) ∷ Nil ∷ []) ∷ fresh_column (codes "t") text (Bytes (codes "a") ∷ Nil ∷ []) ∷ []
+
+-- ab beside c, and a beside bc
+abbrev pub texts_beside : Frame
+texts_beside = fresh_column (codes "a") text (Bytes (codes "ab") ∷ Bytes (codes "a") ∷ []) ∷ fresh_column (codes "b") text (Bytes (codes "c") ∷ Bytes (codes "bc") ∷ []) ∷ []
+
+-- the hash of a row under the seed 0 and no mixing
+abbrev pub hashed_unmixed : Frame → ℕ → ℕ
+hashed_unmixed keys row = row_hash 0 (λ x. x) keys row

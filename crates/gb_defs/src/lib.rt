@@ -10,6 +10,7 @@ pub mod hashes;
 pub mod orders;
 pub mod paths;
 pub mod ranges;
+pub mod row_bytes;
 pub mod slices;
 pub mod slow;
 pub mod worked;
