@@ -4,12 +4,13 @@
 ghost use Rattle.std.specs.Prelude.{◌≡◌, ◌<◌, ◌^◌, ◌%◌, ℤ, pos, ◌+ℤ◌, ◌++◌, length, false, option_map, OnOk};
 ghost use Rattle.std.specs.Bool.{Decides};
 ghost use Rattle.std.specs.Ordering.{int_cmp};
-ghost use Rattle.std.specs.Int.{Width, w128, cast_unsigned};
+ghost use Rattle.std.specs.Int.{Width, byte_len, w128, cast_unsigned};
 ghost use Rattle.gb_defs.specs.Cell.{flat_value};
 ghost use Rattle.gb_defs.specs.CellText.{number_text};
 ghost use Rattle.gb_defs.specs.ColumnType.{FlatType, Flat, FitsNumber};
 ghost use Rattle.gb_defs.specs.Fold.{wrap_flat};
 ghost use Rattle.gb_defs.specs.Hash.{word_of};
+ghost use Rattle.gb_defs.specs.RowBytes.{number_bytes};
 ghost use Rattle.gb_defs.specs.Slot.{Num};
 ghost use Rattle.gb_numbers.specs.Native.{IsWhole, is_wide, unworded, unwidened};
 ghost use Rattle.gb_base.specs.DataType.{type_of};
@@ -77,6 +78,15 @@ pub trait Native: Copy + Eq + Ord + Hash + Integer {
     /// The number that a cell of a table reads as.
     fn from_cell(cell: &[u8]) -> Option<Self>
         ensures { option_map (λ n. Num (number n)) result ≡ flat_value flat cell.now };
+
+    /// How many bytes `write_ordered` writes.
+    fn ordered_len() -> usize
+        ensures { result ≡ byte_len width };
+
+    /// The bytes that stand for it in the bytes of a row: highest first, with the bit of a sign turned.
+    fn write_ordered(self, to: &mut [u8])
+        requires { length to.old ≡ byte_len width }
+        ensures { to.new ≡ number_bytes flat (number self) };
 
     /// Tells that a value fits the type. It does nothing when it runs.
     fn value_fits(self)

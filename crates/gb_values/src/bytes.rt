@@ -114,6 +114,20 @@ fn push_shifted(ends: &mut Vec<usize>, more: &[usize], from: usize, base: usize)
 }
 
 impl<K: ByteKind> ByteValues<K> {
+    ghost use Rattle.gb_values.specs.Array.{ArePieces, pieces_from};
+
+    /// The pieces of a buffer that end at these places.
+    pub fn from_parts(bytes: Vec<u8>, ends: Vec<usize>) -> Self
+        requires { ArePieces K.flat bytes.items ends.items }
+        ensures { result ≡ pieces_from 0 ends.items bytes.items }
+    {
+        ByteValues {
+            bytes,
+            ends,
+            kind: PhantomData,
+        }
+    }
+
     /// The value at a place.
     #[inline]
     pub fn bytes_at(&self, i: usize) -> &[u8]

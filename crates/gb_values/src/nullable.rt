@@ -11,7 +11,7 @@ ghost use Rattle.gb_defs.specs.Column.{IsLastValid};
 ghost use Rattle.gb_defs.specs.ColumnType.{ColumnType, Fits};
 ghost use Rattle.gb_defs.specs.Column.{may_be_sorted};
 ghost use Rattle.gb_defs.specs.Slot.{Slot, Nil, is_nil, slot_at};
-ghost use Rattle.gb_values.specs.Array.{HasOneMore, TakesField};
+ghost use Rattle.gb_values.specs.Array.{HasOneMore, TakesField, flagged_slots};
 ghost use Rattle.gb_values.specs.Valid.{IsFirstValid, IsNull};
 ghost use Rattle.gb_base.specs.DataType.{type_of};
 ghost use Rattle.gb_values.specs.SlotOrder.{ComparesAs};
@@ -133,6 +133,28 @@ impl<V: Values> NullableArray<V> {
         NullableArray {
             values: V::empty(alloc),
             validity: Validity::new(alloc),
+        }
+    }
+
+    /// These values, none of them null.
+    #[tactic(auto, using(crate::proofs::FlagLemmas::flagged_none))]
+    pub fn from_values(alloc: Global, values: V) -> Self
+        ensures { result ≡ V.slots values }
+    {
+        NullableArray {
+            values,
+            validity: Validity::new(alloc),
+        }
+    }
+
+    /// These values, each null where its flag is false.
+    pub fn from_flags(values: V, flags: Vec<bool>) -> Self
+        requires { length flags.items ≡ length (V.slots values) }
+        ensures { result ≡ flagged_slots (V.slots values) flags.items }
+    {
+        NullableArray {
+            values,
+            validity: Validity::from_flags(flags),
         }
     }
 

@@ -22,6 +22,13 @@ impl Validity {
         }
     }
 
+    /// These flags.
+    pub(crate) fn from_flags(flags: Vec<bool>) -> Validity
+        ensures { result.flags.items ≡ flags.items }
+    {
+        Validity { flags }
+    }
+
     pub(crate) fn is_valid(&self, i: usize) -> bool
         ensures { result ≡ slice_index_or self.now.flags.items i true }
     {

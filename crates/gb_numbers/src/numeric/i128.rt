@@ -66,6 +66,16 @@ impl Native for i128 {
     }
 
     #[inline]
+    fn ordered_len() -> usize {
+        16
+    }
+
+    #[inline(always)]
+    fn write_ordered(self, to: &mut [u8]) {
+        (self.cast_unsigned() ^ (1 << 127)).write_ordered(to);
+    }
+
+    #[inline]
     fn value_fits(self) {}
 
     #[inline]

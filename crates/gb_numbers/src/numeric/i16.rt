@@ -66,6 +66,16 @@ impl Native for i16 {
     }
 
     #[inline]
+    fn ordered_len() -> usize {
+        2
+    }
+
+    #[inline(always)]
+    fn write_ordered(self, to: &mut [u8]) {
+        (self.cast_unsigned() ^ (1 << 15)).write_ordered(to);
+    }
+
+    #[inline]
     fn value_fits(self) {}
 
     #[inline]

@@ -66,6 +66,16 @@ impl Native for i64 {
     }
 
     #[inline]
+    fn ordered_len() -> usize {
+        8
+    }
+
+    #[inline(always)]
+    fn write_ordered(self, to: &mut [u8]) {
+        (self.cast_unsigned() ^ (1 << 63)).write_ordered(to);
+    }
+
+    #[inline]
     fn value_fits(self) {}
 
     #[inline]

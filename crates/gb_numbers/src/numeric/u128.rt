@@ -54,6 +54,16 @@ impl Native for u128 {
     }
 
     #[inline]
+    fn ordered_len() -> usize {
+        16
+    }
+
+    #[inline(always)]
+    fn write_ordered(self, to: &mut [u8]) {
+        to.copy_from_slice(&self.to_be_bytes());
+    }
+
+    #[inline]
     fn value_fits(self) {}
 
     #[inline]

@@ -66,6 +66,16 @@ impl Native for u64 {
     }
 
     #[inline]
+    fn ordered_len() -> usize {
+        8
+    }
+
+    #[inline(always)]
+    fn write_ordered(self, to: &mut [u8]) {
+        to.copy_from_slice(&self.to_be_bytes());
+    }
+
+    #[inline]
     fn value_fits(self) {}
 
     #[inline]

@@ -66,6 +66,16 @@ impl Native for u8 {
     }
 
     #[inline]
+    fn ordered_len() -> usize {
+        1
+    }
+
+    #[inline(always)]
+    fn write_ordered(self, to: &mut [u8]) {
+        to[0] = self;
+    }
+
+    #[inline]
     fn value_fits(self) {}
 
     #[inline]
