@@ -188,7 +188,7 @@ fn are_placed<C: TotalOrdInner>(column: &C, ranks: &[u8], nulls_last: bool) -> b
 
 // Whether slots compare as their ranks do, in the series and in its layouts.
 fn has_ranks(series: &Series, first: &[u8], last: &[u8]) -> bool {
-    if series.len() != first.len() || series.len() != last.len() {
+    if !series.has_order() || series.len() != first.len() || series.len() != last.len() {
         return false;
     }
     let equal = series.into_total_eq_inner();
@@ -356,7 +356,8 @@ fn ord_layout(inner: &OrdInner<'_>) -> &'static str {
 
 // Whether a series has these layouts.
 fn has_layouts(series: &Series, equal: &str, ordered: &str) -> bool {
-    eq_layout(&series.into_total_eq_inner()) == equal
+    series.has_order()
+        && eq_layout(&series.into_total_eq_inner()) == equal
         && ord_layout(&series.into_total_ord_inner()) == ordered
 }
 
