@@ -2,7 +2,7 @@
 
 ghost use Rattle.gb_cols.specs.Column.{ReadsCells};
 
-use crate::columns::{two_arrays, two_lists, two_structs};
+use crate::makers::{holds, two_arrays, two_lists, two_structs};
 use gb_base::data_type::IsSorted;
 use gb_base::error::PolarsResult;
 use gb_base::small_str::PlSmallStr;
@@ -11,16 +11,6 @@ use gb_series::nested::array::ArrayChunked;
 use gb_series::nested::list::ListChunked;
 use gb_series::nested::structs::StructChunked;
 use std::test::Fail;
-
-// Whether a test holds of a column.
-fn holds<C: SeriesTrait, F: Fn(&C) -> bool>(column: PolarsResult<C>, test: F) -> bool
-    requires { F.IsAlwaysCallable test }
-{
-    match column {
-        Ok(column) => test(&column),
-        Err(_) => false,
-    }
-}
 
 // Whether the cell of a row has a text.
 fn writes<C: SeriesTrait>(column: &C, row: usize, text: &str) -> bool {
@@ -157,40 +147,25 @@ fn answers<C: SeriesTrait>(column: &C, name: &str, text: &str) -> bool
         && reads_nulls(column)
 }
 
-fn list_answers(made: PolarsResult<ListChunked>) -> bool {
-    match made {
-        Ok(column) => {
-            column.tell_type();
-            answers(&column, "l", "[1,2]")
-        }
-        Err(_) => false,
-    }
+fn list_answers(column: &ListChunked) -> bool {
+    column.tell_type();
+    answers(column, "l", "[1,2]")
 }
 
-fn array_answers(made: PolarsResult<ArrayChunked>) -> bool {
-    match made {
-        Ok(column) => {
-            column.tell_type();
-            answers(&column, "r", "[1,null]")
-        }
-        Err(_) => false,
-    }
+fn array_answers(column: &ArrayChunked) -> bool {
+    column.tell_type();
+    answers(column, "r", "[1,null]")
 }
 
-fn struct_answers(made: PolarsResult<StructChunked>) -> bool {
-    match made {
-        Ok(column) => {
-            column.tell_type();
-            answers(&column, "s", "[[1,2],\"a\\\"\"]")
-        }
-        Err(_) => false,
-    }
+fn struct_answers(column: &StructChunked) -> bool {
+    column.tell_type();
+    answers(column, "s", "[[1,2],\"a\\\"\"]")
 }
 
 #[test]
 fn calls_on_each_kind(rt: HostRuntime) -> Result<(), Fail> {
-    assert!(rt; list_answers(two_lists(rt.alloc())));
-    assert!(rt; array_answers(two_arrays(rt.alloc())));
-    assert!(rt; struct_answers(two_structs(rt.alloc())));
+    assert!(rt; holds(two_lists(rt.alloc()), list_answers));
+    assert!(rt; holds(two_arrays(rt.alloc()), array_answers));
+    assert!(rt; holds(two_structs(rt.alloc()), struct_answers));
     Ok(())
 }

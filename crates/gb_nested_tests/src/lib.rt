@@ -6,3 +6,5 @@
 mod calls;
 #[cfg(test)]
 mod columns;
+#[cfg(test)]
+mod makers;
