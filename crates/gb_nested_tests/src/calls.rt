@@ -2,7 +2,7 @@
 
 ghost use Rattle.gb_cols.specs.Column.{ReadsCells};
 
-use crate::makers::{holds, two_arrays, two_lists, two_structs};
+use crate::makers::{holds, twice, two_arrays, two_lists, two_structs};
 use gb_base::data_type::IsSorted;
 use gb_base::error::PolarsResult;
 use gb_base::small_str::PlSmallStr;
@@ -95,14 +95,6 @@ fn with_cell<C: SeriesTrait>(column: &C, cell: &[u8]) -> PolarsResult<C>
     let mut copy = column.try_clone()?;
     if copy.len() < 9 {
         copy.push_cell(cell, false, "-")?;
-    }
-    Ok(copy)
-}
-
-fn twice<C: SeriesTrait>(column: &C) -> PolarsResult<C> {
-    let mut copy = column.try_clone()?;
-    if copy.len() < 9 {
-        copy.append(column.try_clone()?)?;
     }
     Ok(copy)
 }

@@ -35,6 +35,15 @@ fn refused<C: Drop>(_column: C, error: PolarsError) -> PolarsResult<C>
     Err(error)
 }
 
+/// A column, and its rows once more behind them.
+pub(crate) fn twice<C: SeriesTrait>(column: &C) -> PolarsResult<C> {
+    let mut copy = column.try_clone()?;
+    if copy.len() < 9 {
+        copy.append(column.try_clone()?)?;
+    }
+    Ok(copy)
+}
+
 fn numbers(alloc: Global, values: &[Option<i32>]) -> PolarsResult<Series> {
     let name = PlSmallStr::from_str(alloc, "items")?;
     Ok(Int32Chunked::from_slice_options(alloc, name, values)?.into_series())
@@ -95,36 +104,49 @@ pub(crate) fn lists(alloc: Global) -> PolarsResult<Series>
 }
 
 // The rows of a column as a list, and a null list, as a series.
-fn in_list(items: PolarsResult<Series>) -> PolarsResult<Series> {
-    let items = items?;
-    let column = list_and_null(items.allocator(), &items)?;
-    Series::from_lists(column)
-}
-
-/// A list of three texts, and a null list.
-pub(crate) fn text_lists(alloc: Global) -> PolarsResult<Series> {
-    in_list(texts(alloc))
-}
-
-/// Lists of lists of numbers.
-pub(crate) fn lists_of_lists(alloc: Global) -> PolarsResult<Series> {
-    in_list(lists(alloc))
-}
-
-/// Lists of lists of lists of texts.
-pub(crate) fn deep_texts(alloc: Global) -> PolarsResult<Series> {
-    in_list(in_list(text_lists(alloc)))
+fn in_list(items: &Series) -> PolarsResult<Series> {
+    Ok(Series::from_lists(list_and_null(items.allocator(), items)?)?)
 }
 
 /// A list without items, and a null list.
 pub(crate) fn empty_lists(alloc: Global) -> PolarsResult<Series> {
-    in_list(numbers(alloc, &[]))
+    let items = numbers(alloc, &[])?;
+    in_list(&items)
+}
+
+/// A list of three texts, and a null list.
+pub(crate) fn text_lists(alloc: Global) -> PolarsResult<Series> {
+    let items = texts(alloc)?;
+    in_list(&items)
+}
+
+/// Lists of lists of numbers.
+pub(crate) fn lists_of_lists(alloc: Global) -> PolarsResult<Series> {
+    let items = lists(alloc)?;
+    in_list(&items)
+}
+
+fn lists_of_text_lists(alloc: Global) -> PolarsResult<Series> {
+    let items = text_lists(alloc)?;
+    in_list(&items)
+}
+
+/// Lists of lists of lists of texts.
+pub(crate) fn deep_texts(alloc: Global) -> PolarsResult<Series> {
+    let items = lists_of_text_lists(alloc)?;
+    in_list(&items)
 }
 
 // Three lists, of which two are null.
 fn three_lists(alloc: Global) -> PolarsResult<Series> {
     let two = lists(alloc)?;
     two.take(&[0, 1, 1])
+}
+
+/// The two lists, and once more behind them.
+pub(crate) fn lists_twice(alloc: Global) -> PolarsResult<Series> {
+    let two = lists(alloc)?;
+    twice(&two)
 }
 
 // ---- arrays
@@ -192,23 +214,6 @@ fn three_structs(alloc: Global) -> PolarsResult<StructChunked> {
 /// Structs of a list and a text: one with both, one that is null, and one of two nulls.
 pub(crate) fn structs(alloc: Global) -> PolarsResult<Series> {
     Series::from_structs(three_structs(alloc)?)
-}
-
-// ---- what is put behind a column
-
-fn append_lists(alloc: Global, column: &mut Series) -> PolarsResult<()>
-    requires { length (value_of column.old).slots ≡ 2 }
-{
-    column.append(lists(alloc)?)
-}
-
-/// The two lists, and once more behind them.
-pub(crate) fn lists_twice(alloc: Global) -> PolarsResult<Series> {
-    let mut column = lists(alloc)?;
-    match append_lists(alloc, &mut column) {
-        Ok(()) => Ok(column),
-        Err(error) => refused(column, error),
-    }
 }
 
 // ---- nulls
