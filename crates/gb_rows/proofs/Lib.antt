@@ -1,0 +1,11 @@
+pub mod RangeLemmas
+pub mod CellLemmas
+pub mod AlikeLemmas
+pub mod BufferLemmas
+pub mod TakenLemmas
+pub mod ZeroLemmas
+pub mod LaidLemmas
+pub mod NumberLemmas
+pub mod PrefixLemmas
+pub mod ItemLemmas
+pub mod KeyLemmas

@@ -1,0 +1,7 @@
+-- in the order of dependence
+pub mod Zipped
+pub mod Cells
+pub mod Buffer
+pub mod Rows
+pub mod Keys
+pub mod Told

@@ -1,0 +1,64 @@
+//! The bytes of rows of columns: each slot ascending, a null before all others, a category by its code.
+
+ghost use Rattle.std.specs.Prelude.{◌≡◌, [], map, IfOk, IfErr};
+ghost use Rattle.gb_base.specs.PlSmallStr.{name_of, IsNoMemory};
+ghost use Rattle.gb_defs.specs.Column.{fresh_column, frame_height};
+ghost use Rattle.gb_defs.specs.ColumnType as typed;
+ghost use Rattle.gb_series.specs.Series.{value_of};
+ghost use Rattle.gb_rows.specs.Rows.{AreOfOneLength, all_row_bytes, row_slots};
+
+use crate::keys::encode_keys;
+use crate::rows_encoded::RowsEncoded;
+use gb_base::error::PolarsResult;
+use gb_base::small_str::PlSmallStr;
+use gb_cols::binary::BinaryOffsetChunked;
+use gb_cols::series_trait::SeriesTrait;
+use gb_series::series::Column;
+use std::alloc::Global;
+
+/// The bytes of each row. Without columns there are no rows. Two passes a column: one for how long the rows
+/// are, and one for the bytes.
+pub fn _get_rows_encoded_unordered(alloc: Global, by: &[Column]) -> PolarsResult<RowsEncoded>
+    requires { AreOfOneLength (map value_of by.now) }
+    ensures ok { IfOk result (λ rows. rows ≡ all_row_bytes (map value_of by.now)) }
+    ensures err { IfErr result IsNoMemory }
+{
+    let rows = encode_keys(alloc, by, height_of(by))?;
+    Ok(rows)
+}
+
+fn height_of(by: &[Column]) -> usize
+    ensures { result ≡ frame_height (map value_of by.now) }
+{
+    match by.first() {
+        Some(column) => column.len(),
+        None => 0,
+    }
+}
+
+/// The same in one chunk of a column with an empty name.
+pub fn encode_rows_unordered(alloc: Global, by: &[Column]) -> PolarsResult<BinaryOffsetChunked>
+    requires { AreOfOneLength (map value_of by.now) }
+    ensures ok { let slots = row_slots (map value_of by.now) in
+        IfOk result (λ c. c ≡ fresh_column [] (typed.Flat typed.BinaryOffset) slots) }
+    ensures err { IfErr result IsNoMemory }
+{
+    let rows = _get_rows_encoded_unordered(alloc, by)?;
+    Ok(rows.into_array())
+}
+
+/// The same in one chunk of a column with a name.
+pub fn _get_rows_encoded_ca_unordered(
+    alloc: Global,
+    name: PlSmallStr,
+    by: &[Column],
+) -> PolarsResult<BinaryOffsetChunked>
+    requires { AreOfOneLength (map value_of by.now) }
+    ensures ok { let slots = row_slots (map value_of by.now) in IfOk result
+        (λ c. c ≡ fresh_column (name_of name) (typed.Flat typed.BinaryOffset) slots) }
+    ensures err { IfErr result IsNoMemory }
+{
+    let mut rows = encode_rows_unordered(alloc, by)?;
+    rows.rename(name);
+    Ok(rows)
+}
