@@ -85,13 +85,13 @@ like_texts texts c codes same known = like_type texts c codes same (has_texts c.
 
 in_categories : (texts : List (List ℕ)) (ordering : CategoricalOrdering) (slot : Slot) → Fits (Flat (Categorical (Some texts) ordering)) slot → IsCodeBelow (length texts) slot
 in_categories texts ordering Nil fits = tt
-in_categories texts ordering (Num n) fits = fits
+in_categories texts ordering (Num n) fits = fits.1
 in_categories texts ordering (Bytes bs) fits = absurd fits
 in_categories texts ordering (Items parts) fits = absurd (no_parts (Categorical (Some texts) ordering) 0 parts fits)
 
 in_enum : (texts : List (List ℕ)) (ordering : CategoricalOrdering) (slot : Slot) → Fits (Flat (Enum (Some texts) ordering)) slot → IsCodeBelow (length texts) slot
 in_enum texts ordering Nil fits = tt
-in_enum texts ordering (Num n) fits = fits
+in_enum texts ordering (Num n) fits = fits.1
 in_enum texts ordering (Bytes bs) fits = absurd fits
 in_enum texts ordering (Items parts) fits = absurd (no_parts (Enum (Some texts) ordering) 0 parts fits)
 

@@ -78,9 +78,9 @@ FitsCount (ListOf t) n = Unit {0}
 FitsCount (ArrayOf t width) n = n ≡ width
 FitsCount (StructOf fs) n = n ≡ field_count fs
 
--- the code of a category is one of the codes of its texts
+-- the code of a category is a number of 32 bits, and one of the codes of its texts
 abbrev pub FitsCode : Option (List (List ℕ)) → ℤ → Type 0
-FitsCode texts n = IfSome texts (λ ts. (c : ℕ) × (n ≡ pos c) × (c < length ts))
+FitsCode texts n = FitsUnsigned w32 n × IfSome texts (λ ts. (c : ℕ) × (n ≡ pos c) × (c < length ts))
 
 abbrev pub FitsNumber : FlatType → ℤ → Type 0
 FitsNumber Null n = ⊥

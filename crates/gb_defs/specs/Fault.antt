@@ -101,6 +101,16 @@ fault frame keys aggs =
     option_or (keyless_fault keys) (option_or (shape_fault (height_of frame keys) keys) (option_or (rows_fault (height_of frame keys))
     (option_or (missing_fault frame aggs) (option_or (unfit_fault frame aggs) (duplicate_of (first_repeated (answer_names keys aggs)))))))
 
+-- ---- hashes
+
+-- the slots of a type that holds others have no hash
+abbrev pub hash_fault : ColumnType → List ℕ → Option Fault
+hash_fault (Flat t) name = None
+hash_fault t name = Some (InvalidOperation OfHash name)
+
+abbrev pub key_fault : ColumnValue → Option Fault
+key_fault column = hash_fault column.dtype column.name
+
 -- ---- frames
 
 abbrev pub misaligned_fault : Frame → Bool → Option Fault

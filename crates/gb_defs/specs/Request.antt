@@ -118,11 +118,10 @@ options_of n null_word explain =
 abbrev pub default_options : ToolOptions
 default_options = options_of no_numbers [] false
 
--- the keys that are asked for: today exactly one
+-- the keys that are asked for: at least one
 abbrev pub asked_keys : List (List ℕ) → Option (List (List ℕ))
 asked_keys [] = None
-asked_keys (name ∷ []) = Some (name ∷ [])
-asked_keys (name ∷ other ∷ names) = None
+asked_keys (name ∷ names) = Some (name ∷ names)
 
 abbrev pub group_of : Given → Option Request
 group_of g = option_map (λ names. Group names g.aggs (options_of g.numbers (unwrap_or g.null_word []) g.explain)) (asked_keys g.by)

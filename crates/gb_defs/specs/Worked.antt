@@ -34,6 +34,9 @@ keys_alone = Group (codes "k" ∷ []) [] default_options
 abbrev pub by_day : Request
 by_day = Group (codes "day" ∷ []) [] default_options
 
+abbrev pub keys_and_sum : List ℕ → List ℕ → Request
+keys_and_sum key other = Group (key ∷ other ∷ []) ((codes "v", Sum) ∷ []) default_options
+
 abbrev pub two_workers : Request
 two_workers = Group (codes "k" ∷ []) ((codes "v", Sum) ∷ []) (record default_options { workers = 2; partitions = 2; explain = true })
 

@@ -3,8 +3,8 @@
 ghost use Rattle.std.specs.Prelude.{◌≡◌, codes, [], ◌∷◌, ◌++◌, Some, None};
 ghost use Rattle.gb_defs.specs.Outcome.{outcome, Report, BadTable, BadGroup};
 ghost use Rattle.gb_defs.specs.Table.{BadCell, NoHeader, Ragged, SameName};
-ghost use Rattle.gb_defs.specs.Fault.{ColumnNotFound, InvalidOperation, OfSum};
-ghost use Rattle.gb_defs.specs.Worked.{asked, sums_by_date, sums_by_key, sums_of_colon, keys_alone, by_day, two_workers, null_by};
+ghost use Rattle.gb_defs.specs.Fault.{ColumnNotFound, Duplicate, InvalidOperation, OfSum};
+ghost use Rattle.gb_defs.specs.Worked.{asked, sums_by_date, sums_by_key, sums_of_colon, keys_alone, keys_and_sum, by_day, two_workers, null_by};
 
 /// The request that the words of a command line spell.
 pub fn requests()
@@ -20,7 +20,10 @@ pub fn requests()
     ensures any_order { asked (codes "--explain" ∷ codes "--agg" ∷ codes "sum:v"
         ∷ codes "--workers" ∷ codes "2" ∷ codes "--by" ∷ codes "k" ∷ [])
         ≡ Some two_workers }
-    ensures repeated { asked (codes "--by" ∷ codes "k" ∷ codes "--by" ∷ codes "j" ∷ []) ≡ None }
+    ensures two_keys { asked (codes "--by" ∷ codes "k" ∷ codes "--agg" ∷ codes "sum:v"
+        ∷ codes "--by" ∷ codes "j" ∷ [])
+        ≡ Some (keys_and_sum (codes "k") (codes "j")) }
+    ensures no_key { asked (codes "--agg" ∷ codes "sum:v" ∷ []) ≡ None }
     ensures out_of_range { asked (codes "--by" ∷ codes "k" ∷ codes "--workers" ∷ codes "65" ∷ [])
         ≡ None }
     ensures value_like_an_option { asked (codes "--null" ∷ codes "--by"
@@ -56,6 +59,14 @@ pub fn outcomes()
         ≡ Report (codes "k:str,v_sum:i64\nx,-9223372036854775808\n") }
     ensures quoted { outcome sums_by_key (codes "k,v:i64\r\n\"x, y\",+2\r\n\"x, y\",-5\r\n")
         ≡ Report (codes "k:str,v_sum:i64\n\"x, y\",-3\n") }
+    ensures two_keys { outcome (keys_and_sum (codes "a") (codes "b"))
+        (codes "a,b,v:i64\nab,c,1\na,bc,2\nab,c,3\n")
+        ≡ Report (codes "a:str,b:str,v_sum:i64\nab,c,4\na,bc,2\n") }
+    ensures null_key_beside { outcome (keys_and_sum (codes "n") (codes "k"))
+        (codes "n:null,k,v:i64\n,x,1\n,y,2\n,x,3\n")
+        ≡ Report (codes "n:null,k:str,v_sum:i64\n,x,4\n,y,2\n") }
+    ensures key_twice { outcome (keys_and_sum (codes "k") (codes "k")) (codes "k,v:i64\nx,1\n")
+        ≡ BadGroup (Duplicate (codes "k")) }
     ensures bad_cell { outcome keys_alone (codes "k:i64\n12x\n") ≡ BadTable (BadCell 1 1) }
     ensures ragged { outcome keys_alone (codes "k\n1,2\n") ≡ BadTable (Ragged 1 2 1) }
     ensures same_name { outcome keys_alone (codes "a,a:i64\n") ≡ BadTable (SameName 2) }

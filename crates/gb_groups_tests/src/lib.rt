@@ -9,6 +9,4 @@ mod hash;
 #[cfg(test)]
 mod key_rows;
 #[cfg(test)]
-mod nested_keys;
-#[cfg(test)]
 mod paths;

@@ -7,4 +7,6 @@ mod calls;
 #[cfg(test)]
 mod columns;
 #[cfg(test)]
+mod keys;
+#[cfg(test)]
 mod makers;

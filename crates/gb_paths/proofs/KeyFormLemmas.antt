@@ -1,5 +1,5 @@
 -- Keys in a form of their own stand for the slots of a column.
-use Rattle.std.proofs.Common.{◌≡◌, ◌==◌, inl, inr, ℕ, ℤ, pos, ◌<◌, Bool, true, false, if◌then◌else◌, List, length, map, All, Option, None, Some, MatchOption, refl, sym, ◌∙◌, ap, subst}
+use Rattle.std.proofs.Common.{◌≡◌, ◌==◌, inl, inr, ℕ, ℤ, pos, ◌<◌, Bool, true, false, List, [], ◌∷◌, length, map, All, Option, None, Some, MatchOption, refl, sym, ◌∙◌, ap, subst}
 use Rattle.std.specs.Bool.{Decides}
 use Rattle.std.specs.Borrow.{Bor}
 use Rattle.std.specs.Global.{Global}
@@ -9,11 +9,11 @@ use Rattle.std.proofs.lemmas.Bool.Decides.{same_from_decides}
 use Rattle.std.proofs.lemmas.List.{get_or-map, length-map}
 use Rattle.std.proofs.lemmas.Simd.{map-map}
 use Rattle.gb_defs.specs.Column.{ColumnValue, categories_of}
-use Rattle.gb_defs.specs.ColumnType.{ArrayOf, ColumnType, FlatType, Flat, ListOf, StructOf, Unsigned}
-use Rattle.gb_defs.specs.Fault.{InvalidOperation, OfHash}
+use Rattle.gb_defs.specs.ColumnType.{ArrayOf, ColumnType, FlatType, Flat, ListOf, StructOf, Null, Boolean, Unsigned, Signed, Decimal, Date, Time, Datetime, Duration, String, Binary, BinaryOffset, Categorical, Enum}
 use Rattle.gb_defs.specs.Hash.{hash_number, hash_of, hash_width, seed_mix}
-use Rattle.gb_defs.specs.Path.{Codes, Numbers, ByteLists, flat_kind, kind_of}
-use Rattle.gb_defs.specs.Rows.{StandsFor, rows_of_slots}
+use Rattle.gb_defs.specs.Path.{Codes, Numbers, ByteLists, Parts, flat_kind, kind_of}
+use Rattle.gb_defs.specs.RowBytes.{row_bytes}
+use Rattle.gb_defs.specs.Rows.{Rows, StandsFor, rows_of_slots}
 use Rattle.gb_defs.specs.Slot.{Slot, Nil, Num, Bytes, Items, slot_at, slot_eq}
 use Rattle.gb_defs.proofs.SlotLemmas.{Decides-slot_eq}
 use Rattle.gb_logical.proofs.CategoryLemmas.{has_texts}
@@ -22,11 +22,19 @@ use Rattle.gb_numbers.specs.Native.{IsWhole, is_wide, unwidened, unworded}
 use Rattle.gb_cols.specs.Null.{AreNulls}
 use Rattle.gb_hash.specs.Keys.{key_slots}
 use Rattle.gb_series.specs.Variant.{type_variant}
-use Rattle.gb_paths.specs.Keys.{HasNoValues, StandFor, hash_fault}
+use Rattle.gb_paths.specs.Keys.{HasNoValues, StandFor, hashed_slot, key_rows}
 use Rattle.gb_paths.specs.PlainWords.{ArePlain}
 use Rattle.gb_paths.specs.declared.into_groups.Keys.{Keys}
 use Rattle.gb_paths.specs.declared.into_groups.Keys.TheVariants.{Plain, Words, PlainCodes, Wide}
 use Rattle.gb_paths.specs.declared.into_groups.Keys.TheVariants as keys
+
+-- rows that stand for rows that stand for others
+pub stood_by : (a b c : Rows) → StandsFor a b → StandsFor b c → StandsFor a c
+stood_by a b c x y = record {
+  many = y.many ∙ x.many;
+  agree = λ i j low high. x.agree i j low high ∙ y.agree i j (rw x.many low) (rw x.many high);
+  hashed = λ i lt. x.hashed i lt ∙ y.hashed i (rw x.many lt);
+}
 
 -- slots in a form that tells them
 module _ (form back : Slot → Slot) (slots keys : List Slot) (are : keys ≡ map form slots) (told : All (λ slot. back (form slot) ≡ slot) slots) where
@@ -109,8 +117,9 @@ wide_width w128 wide = refl
 
 -- ---- the types of categories
 
-code_width : (t : ColumnType) (texts : List (List ℕ)) → categories_of t ≡ Some texts → hash_width t ≡ w64
-code_width t texts e = elim (has_texts t texts e).1 [
+-- codes hash as numbers of 64 bits
+code_rows : (column : ColumnValue) (texts : List (List ℕ)) → categories_of column.dtype ≡ Some texts → (seed : ℕ) → key_rows seed column ≡ rows_of_slots w64 seed seed_mix column.slots
+code_rows column texts e seed = elim (has_texts column.dtype texts e).1 [
   | inl same ↦ rw same refl
   | inr same ↦ rw same refl
 ]
@@ -127,7 +136,7 @@ pub codes_stand_for : (column codes : ColumnValue) (texts : List (List ℕ)) (wo
 codes_stand_for column codes texts words typed same stand =
     let are = subst (λ slots. AreWords (Unsigned w32) slots words.items) (sym same) stand in
     record {
-      rows = λ seed. rw (code_width column.dtype texts typed) (words_stand (Unsigned w32) column.slots words.items w64 seed seed_mix refl are);
+      rows = λ seed. rw (code_rows column texts typed seed) (words_stand (Unsigned w32) column.slots words.items w64 seed seed_mix refl are);
       kind = code_kind column.dtype texts typed;
     }
 
@@ -136,7 +145,7 @@ pub plain_codes_stand_for : (column codes : ColumnValue) (texts : List (List ℕ
 plain_codes_stand_for column codes texts words typed same stand =
     let are = subst (λ slots. ArePlain (Unsigned w32) slots words.items) (sym same) stand in
     record {
-      rows = λ seed. rw (code_width column.dtype texts typed) (plain_stand (Unsigned w32) column.slots words.items w64 seed seed_mix refl are);
+      rows = λ seed. rw (code_rows column texts typed seed) (plain_stand (Unsigned w32) column.slots words.items w64 seed seed_mix refl are);
       kind = code_kind column.dtype texts typed;
     }
 
@@ -190,26 +199,66 @@ module _ (seed : ℕ) (mix : ℕ → ℕ) where
   hash_alike own other same (Bytes bytes) = refl
   hash_alike own other same (Items parts) = refl
 
-module _ (column stored : ColumnValue) (slots : column.slots ≡ stored.slots) (width : is_wide (hash_width column.dtype) ≡ is_wide (hash_width stored.dtype)) (kind : kind_of column.dtype ≡ kind_of stored.dtype) where
+-- the rows of a key of a flat type
+pub flat_rows : (t : FlatType) (column : ColumnValue) → column.dtype ≡ Flat t → (seed : ℕ) → key_rows seed column ≡ rows_of_slots (hash_width (Flat t)) seed seed_mix column.slots
+flat_rows t column typed seed = rw typed refl
+
+module _ (t u : FlatType) (column stored : ColumnValue) (own : column.dtype ≡ Flat t) (typed : stored.dtype ≡ Flat u) (slots : column.slots ≡ stored.slots)
+    (width : is_wide (hash_width (Flat t)) ≡ is_wide (hash_width (Flat u))) (kind : flat_kind t ≡ flat_kind u) where
+  same_kind : kind_of column.dtype ≡ kind_of stored.dtype
+  same_kind = ap kind_of own ∙ kind ∙ sym (ap kind_of typed)
+
+  alike_stand : (seed : ℕ) → StandsFor (key_rows seed column) (key_rows seed stored)
+  alike_stand seed = rw (flat_rows t column own seed, flat_rows u stored typed seed, slots) (record {
+    many = refl;
+    agree = λ i j low high. refl;
+    hashed = λ i lt. hash_alike seed seed_mix (hash_width (Flat t)) (hash_width (Flat u)) width (slot_at stored.slots i);
+  })
+
   typed_stand_for : (keys : Keys) → StandFor stored keys → StandFor column keys
-  typed_stand_for keys stand = record {
-    rows = λ seed. rw slots (record {
-      many = (stand.rows seed).many;
-      agree = (stand.rows seed).agree;
-      hashed = λ i lt. hash_alike seed seed_mix (hash_width column.dtype) (hash_width stored.dtype) width (slot_at stored.slots i) ∙ (stand.rows seed).hashed i lt;
-    });
-    kind = kind ∙ stand.kind;
-  }
+  typed_stand_for keys stand = record { rows = λ seed. stood_by _ _ _ (alike_stand seed) (stand.rows seed); kind = same_kind ∙ stand.kind }
 
   pub typed_keys : (keys : Option Keys) → MatchOption keys (HasNoValues stored) (StandFor stored) → MatchOption keys (HasNoValues column) (StandFor column)
-  typed_keys None none = record { kind = kind ∙ none.kind; nulls = subst (λ (ss : List Slot). AreNulls ss) (sym slots) none.nulls }
+  typed_keys None none = record { kind = same_kind ∙ none.kind; nulls = subst (λ (ss : List Slot). AreNulls ss) (sym slots) none.nulls }
   typed_keys (Some keys) stand = typed_stand_for keys stand
 
--- ---- types without a hash
+-- ---- keys that hold others
 
--- a type is refused as a key exactly where it holds others
-pub hash_by_variant : (n : ℕ) (t : ColumnType) (name : List ℕ) → type_variant t ≡ n → hash_fault t name ≡ (if n == 0 then None else Some (InvalidOperation OfHash name))
-hash_by_variant n (Flat t) name is = ap (λ k. if k == 0 then None else Some (InvalidOperation OfHash name)) is
-hash_by_variant n (ListOf t) name is = ap (λ k. if k == 0 then None else Some (InvalidOperation OfHash name)) is
-hash_by_variant n (ArrayOf t width) name is = ap (λ k. if k == 0 then None else Some (InvalidOperation OfHash name)) is
-hash_by_variant n (StructOf fs) name is = ap (λ k. if k == 0 then None else Some (InvalidOperation OfHash name)) is
+-- only a flat type has no parts
+pub parts_by_variant : (n : ℕ) (t : ColumnType) → type_variant t ≡ n → (n == 0) ≡ false → kind_of t ≡ Parts
+parts_by_variant n (Flat t) is some = cc (rw (← is) at some)
+parts_by_variant n (ListOf t) is some = refl
+parts_by_variant n (ArrayOf t width) is some = refl
+parts_by_variant n (StructOf fs) is some = refl
+
+no_parts : (t : FlatType) → flat_kind t ≡ Parts → ⊥
+no_parts Null e = cc
+no_parts Boolean e = cc
+no_parts (Unsigned w) e = cc
+no_parts (Signed w) e = cc
+no_parts (Decimal precision scale) e = cc
+no_parts Date e = cc
+no_parts Time e = cc
+no_parts (Datetime unit) e = cc
+no_parts (Duration unit) e = cc
+no_parts String e = cc
+no_parts Binary e = cc
+no_parts BinaryOffset e = cc
+no_parts (Categorical texts ordering) e = cc
+no_parts (Enum texts ordering) e = cc
+
+-- a key that holds others is hashed by its bytes
+pub parts_rows : (column : ColumnValue) → kind_of column.dtype ≡ Parts → (row : ℕ) → hashed_slot column.dtype column row ≡ Bytes (row_bytes (column ∷ []) row)
+parts_rows column parts row = by_type column.dtype parts
+  where
+    by_type : (t : ColumnType) → kind_of t ≡ Parts → hashed_slot t column row ≡ Bytes (row_bytes (column ∷ []) row)
+    by_type (Flat t) e = absurd (no_parts t e)
+    by_type (ListOf t) e = refl
+    by_type (ArrayOf t width) e = refl
+    by_type (StructOf fs) e = refl
+
+pub parts_width : (t : ColumnType) → kind_of t ≡ Parts → hash_width t ≡ w64
+parts_width (Flat t) e = absurd (no_parts t e)
+parts_width (ListOf t) e = refl
+parts_width (ArrayOf t width) e = refl
+parts_width (StructOf fs) e = refl

@@ -7,5 +7,7 @@ pub mod MemberLemmas
 pub mod NumberLemmas
 pub mod PartitionLemmas
 pub mod PlainWordLemmas
+pub mod RowBytesLemmas
 pub mod RunLemmas
+pub mod SeveralLemmas
 pub mod TupleLemmas

@@ -11,14 +11,14 @@ use Rattle.gb_defs.specs.Path.{KeyKind, Nulls, code_count, path_by_kind, path_gr
 use Rattle.gb_defs.specs.Rows.{rows_of_slots, same_slot_at}
 use Rattle.gb_defs.specs.Slot.{Nil, slot_at}
 use Rattle.std.specs.Int.{w64}
-use Rattle.gb_base.specs.Pool.{partitions_of, threshold_of, workers_of}
+use Rattle.gb_base.specs.Pool.{partitions_of, seed_of, threshold_of, workers_of}
 use Rattle.gb_base.specs.declared.pool.Pool.{Pool}
 use Rattle.gb_groups.specs.Slices.{slice_groups, slice_pairs}
-use Rattle.gb_paths.specs.Keys.{HasNoValues, null_rows}
-use Rattle.gb_paths.specs.Tuples.{column_rows, tuples_of}
+use Rattle.gb_paths.specs.Keys.{HasNoValues, key_rows, null_rows}
+use Rattle.gb_paths.specs.Tuples.{tuples_of}
 use Rattle.gb_paths.proofs.FormLemmas.{path_formed}
 
-null_at : (n i : ℕ) → slot_at (replicate n Nil) i ≡ Nil
+pub null_at : (n i : ℕ) → slot_at (replicate n Nil) i ≡ Nil
 null_at zero i = refl
 null_at (suc n) zero = refl
 null_at (suc n) (suc i) = null_at n i
@@ -61,7 +61,7 @@ one_run (suc n) some =
 pub stood_run : (column : ColumnValue) (multithreaded sorted : Bool) (pool : Pool) → HasNoValues column →
     run_groups (null_rows (length column.slots)) ≡ tuples_of column multithreaded sorted pool
 stood_run column multithreaded sorted pool none =
-    let grouped : KeyKind → _ = λ kind. path_groups (path_by_kind kind (unflagged column) multithreaded (workers_of pool) (threshold_of pool)) (column_rows column pool) (code_count column.dtype) (partitions_of pool) sorted in
+    let grouped : KeyKind → _ = λ kind. path_groups (path_by_kind kind (unflagged column) multithreaded (workers_of pool) (threshold_of pool)) (key_rows (seed_of pool) column) (code_count column.dtype) (partitions_of pool) sorted in
     ap (λ slots. run_groups (rows_of_slots w64 0 seed_mix slots)) (sym none.nulls) ∙ ap grouped (sym none.kind)
 
 -- what is the run of so many rows is well formed

@@ -1,19 +1,19 @@
 -- Keys in one of their forms, and what they say of a column.
-use Rattle.std.specs.Prelude.{◌≡◌, ℕ, pos, Bool, true, false, List, Option, None, Some, map, replicate}
+use Rattle.std.specs.Prelude.{◌≡◌, ℕ, pos, Bool, true, false, List, [], ◌∷◌, length, map, replicate}
 use Rattle.std.specs.Int.{w64, w128}
 use Rattle.gb_defs.specs.Column.{ColumnValue}
 use Rattle.gb_defs.specs.ColumnType.{ColumnType, Flat}
-use Rattle.gb_defs.specs.Fault as fault
-use Rattle.gb_defs.specs.Hash.{hash_width, seed_mix}
-use Rattle.gb_defs.specs.Path.{KeyKind, NoValues, Numbers, ByteLists, kind_of}
+use Rattle.gb_defs.specs.Hash.{hash_of, hash_width, seed_mix}
+use Rattle.gb_defs.specs.Path.{KeyKind, NoValues, Numbers, ByteLists, Parts, kind_of}
 use Rattle.gb_defs.specs.Path as path
-use Rattle.gb_defs.specs.Slot as slot
+use Rattle.gb_defs.specs.RowBytes.{row_bytes}
 use Rattle.gb_defs.specs.Rows.{Rows, StandsFor, rows_of_slots}
+use Rattle.gb_defs.specs.Slot as slot
 use Rattle.gb_values.specs.Keys.{bytes_slot, key_slot}
 use Rattle.gb_cols.specs.Null.{AreNulls}
 use Rattle.gb_hash.specs.Keys.{key_slots}
 use Rattle.gb_paths.specs.declared.into_groups.Keys.{Keys}
-use Rattle.gb_paths.specs.declared.into_groups.Keys.TheVariants.{Plain, Words, PlainCodes, Codes, Wide, Texts, Bytes}
+use Rattle.gb_paths.specs.declared.into_groups.Keys.TheVariants.{Plain, Words, PlainCodes, Codes, Wide, Texts, Bytes, RowBytes}
 
 -- the rows of keys, with their hashes under a seed
 abbrev pub rows_of_keys : ℕ → Keys → Rows
@@ -24,6 +24,7 @@ rows_of_keys seed (Codes codes) = rows_of_slots w64 seed seed_mix (map key_slot 
 rows_of_keys seed (Wide words) = rows_of_slots w128 seed seed_mix (map key_slot words.items)
 rows_of_keys seed (Texts texts) = rows_of_slots w64 seed seed_mix (map (λ t. slot.Bytes t) texts)
 rows_of_keys seed (Bytes bytes) = rows_of_slots w64 seed seed_mix (map bytes_slot bytes.items)
+rows_of_keys seed (RowBytes bytes) = rows_of_slots w64 seed seed_mix bytes.slots
 
 abbrev pub are_bytes : Keys → Bool
 are_bytes (Plain words) = false
@@ -33,6 +34,7 @@ are_bytes (Codes codes) = false
 are_bytes (Wide words) = false
 are_bytes (Texts texts) = true
 are_bytes (Bytes bytes) = true
+are_bytes (RowBytes bytes) = true
 
 abbrev pub are_codes : Keys → Bool
 are_codes (PlainCodes codes) = true
@@ -47,6 +49,7 @@ key_kind (Codes codes) = path.Codes
 key_kind (Wide words) = Numbers
 key_kind (Texts texts) = ByteLists
 key_kind (Bytes bytes) = ByteLists
+key_kind (RowBytes bytes) = Parts
 
 -- so many rows without a value
 abbrev pub null_rows : ℕ → Rows
@@ -57,15 +60,20 @@ pub record HasNoValues (column : ColumnValue) : Type 0 where
   pub kind : kind_of column.dtype ≡ NoValues
   pub nulls : AreNulls column.slots
 
+-- by what a row of a key is hashed: a slot that holds others by its bytes, and any other as it is
+abbrev pub hashed_slot : ColumnType → ColumnValue → ℕ → slot.Slot
+hashed_slot (Flat t) key row = slot.slot_at key.slots row
+hashed_slot t key row = slot.Bytes (row_bytes (key ∷ []) row)
+
+-- the rows of a key, with their hashes under a seed
+abbrev pub key_rows : ℕ → ColumnValue → Rows
+key_rows seed key = record {
+  count = length key.slots;
+  slot = slot.slot_at key.slots;
+  hash = λ row. hash_of (hash_width key.dtype) seed seed_mix (hashed_slot key.dtype key row);
+}
+
 -- keys stand for the slots of a column, under any seed
 pub record StandFor (column : ColumnValue) (keys : Keys) : Type 0 where
-  pub rows : (seed : ℕ) → StandsFor (rows_of_slots (hash_width column.dtype) seed seed_mix column.slots) (rows_of_keys seed keys)
+  pub rows : (seed : ℕ) → StandsFor (key_rows seed column) (rows_of_keys seed keys)
   pub kind : kind_of column.dtype ≡ key_kind keys
-
--- a type that holds others has no hash, so that its rows are not grouped today
-abbrev pub hash_fault : ColumnType → List ℕ → Option fault.Fault
-hash_fault (Flat t) name = None
-hash_fault t name = Some (fault.InvalidOperation fault.OfHash name)
-
-abbrev pub key_fault : ColumnValue → Option fault.Fault
-key_fault column = hash_fault column.dtype column.name

@@ -3,28 +3,25 @@
 
 ghost use Rattle.std.specs.Prelude.{◌≡◌, ◌<◌, [], None, Some, true, length, map, OnOk, IfOk, IfErr, IfSome, MatchOption};
 ghost use Rattle.std.specs.Thread.{IsSync};
-ghost use Rattle.gb_defs.specs.Fault.{InvalidOperation, OfHash};
 ghost use Rattle.gb_defs.specs.Groups.{HasRowNumbers, IsWellFormed, idx_groups};
-ghost use Rattle.gb_defs.specs.Path.{hashed_path, path_groups, run_groups};
+ghost use Rattle.gb_defs.specs.Path.{Parts, hashed_path, kind_of, path_groups, run_groups};
 ghost use Rattle.gb_defs.specs.Slot as slot;
-ghost use Rattle.gb_base.specs.PlSmallStr.{IsNoMemory, name_of};
-ghost use Rattle.gb_base.specs.PolarsError.{Explains};
+ghost use Rattle.gb_base.specs.PlSmallStr.{IsNoMemory};
 ghost use Rattle.gb_base.specs.Pool.{partitions_of, seed_of, threshold_of, workers_of};
 ghost use Rattle.gb_groups.specs.GroupsType.{groups_of};
-ghost use Rattle.gb_flat_series.specs.FlatSeries.{column_of};
 ghost use Rattle.gb_series.specs.Series.{value_of};
-ghost use Rattle.gb_paths.specs.Keys.{HasNoValues, StandFor, are_bytes, are_codes, key_fault, null_rows, rows_of_keys};
+ghost use Rattle.gb_paths.specs.Keys.{HasNoValues, StandFor, are_bytes, are_codes, null_rows, rows_of_keys};
 ghost use Rattle.gb_paths.specs.Tuples.{path_value, tuples_of};
 
 use crate::group_by::group_uncounted;
 use crate::plain_words::plain_words;
 use crate::threaded::group_by_threaded_iter;
 use gb_base::device::Gate;
-use gb_base::error::{Operation, PolarsError, PolarsResult};
+use gb_base::error::PolarsResult;
 use gb_base::memory::FreeGate;
 use gb_base::nullable_idx::IdxSize;
 use gb_base::pool::Pool;
-use gb_base::small_str::PlSmallStr;
+use gb_cols::binary::BinaryOffsetChunked;
 use gb_cols::chunked::{ChunkedArray, StringChunked};
 use gb_cols::null::NullChunked;
 use gb_cols::series_trait::SeriesTrait;
@@ -40,6 +37,7 @@ use gb_hash::slice_rows::SliceRows;
 use gb_logical::categorical::CategoricalChunked;
 use gb_logical::logical::{Logical, LogicalKind};
 use gb_numbers::numeric::{Native, PolarsNumericType};
+use gb_rows::unordered::encode_rows_unordered;
 use gb_series::series::Series;
 use gb_values::binary::{Binary, BinaryOffset};
 use gb_values::boolean::FlagValues;
@@ -48,6 +46,7 @@ use gb_values::nullable::Values;
 use gb_values::primitive::NumberValues;
 use gb_values::utf8::TextValues;
 use std::alloc::Global;
+use std::slice;
 use std::thread::Threads;
 
 /// What gives the groups of its rows.
@@ -67,7 +66,7 @@ pub trait IntoGroupsType: SeriesTrait {
             groups_of g ≡ tuples_of (Self.value self.now) multithreaded sorted pool.now) }
         ensures formed { IfOk result (λ g.
             IsWellFormed (length (Self.value self.now).slots) (groups_of g).pairs) }
-        ensures err { IfErr result (λ e. Explains e (key_fault (Self.value self.now))) };
+        ensures err { IfErr result IsNoMemory };
 }
 
 impl<C: KeyColumn> IntoGroupsType for C {
@@ -96,18 +95,9 @@ pub fn group_tuples_gated<T: Threads + Sync, G: Gate + Sync>(
         groups_of g ≡ tuples_of (value_of key.now) multithreaded sorted pool.now) }
     ensures formed { IfOk result (λ g.
         IsWellFormed (length (value_of key.now).slots) (groups_of g).pairs) }
-    ensures err { IfErr result (λ e. Explains e (key_fault (value_of key.now))) }
+    ensures err { IfErr result IsNoMemory }
 {
     group_column(rt, key, multithreaded, sorted, pool, gate)
-}
-
-/// That rows can be grouped by the column. A type that holds others has no hash today.
-pub fn check_key(key: &Series) -> PolarsResult<()>
-    ensures ok { OnOk result (key_fault (value_of key.now) ≡ None) }
-    ensures err { IfErr result (λ e. Explains e (key_fault (value_of key.now))) }
-{
-    flat_key(key)?;
-    Ok(())
 }
 
 /// A key for each row, in a form that no later loop looks a chunk up for. A null has none.
@@ -127,6 +117,8 @@ pub enum Keys<'a> {
     Texts(TextChunks<'a>),
     /// Texts and other bytes.
     Bytes(Vec<Option<&'a [u8]>>),
+    /// The bytes of rows, of slots that hold others or of several columns.
+    RowBytes(BinaryOffsetChunked),
 }
 
 impl<'a> Keys<'a> {
@@ -141,6 +133,7 @@ impl<'a> Keys<'a> {
             Keys::Wide(_) => false,
             Keys::Texts(_) => true,
             Keys::Bytes(_) => true,
+            Keys::RowBytes(_) => true,
         }
     }
 
@@ -155,6 +148,7 @@ impl<'a> Keys<'a> {
             Keys::Wide(_) => false,
             Keys::Texts(_) => false,
             Keys::Bytes(_) => false,
+            Keys::RowBytes(_) => false,
         }
     }
 }
@@ -234,13 +228,13 @@ impl KeyValues for ByteValues<BinaryOffset> {
     }
 }
 
-/// A column whose rows have keys. Columns of lists, arrays and structs have none today, and say so.
+/// A column whose rows have keys.
 pub trait KeyColumn: SeriesTrait {
     /// The keys, as `KeyValues` gives them: none where the column's type has no values.
     fn keys(&self) -> PolarsResult<Option<Keys<'_>>>
         ensures ok { let column = Self.value self.now in
             IfOk result (λ keys. MatchOption keys (HasNoValues column) (StandFor column)) }
-        ensures err { IfErr result (λ e. Explains e (key_fault (Self.value self.now))) };
+        ensures err { IfErr result IsNoMemory };
 }
 
 impl<V: KeyValues> KeyColumn for ChunkedArray<V> {
@@ -282,35 +276,27 @@ impl KeyColumn for FlatSeries {
     }
 }
 
+/// Rows of lists, arrays and structs have their bytes as keys.
 impl KeyColumn for Series {
+    #[tactic(auto, using(crate::proofs::KeyFormLemmas::parts_by_variant))]
     fn keys(&self) -> PolarsResult<Option<Keys<'_>>> {
-        let column = flat_key(self)?;
-        column.keys()
+        self.tell_variant();
+        match self {
+            Series::Flat(column) => column.keys(),
+            _ => Ok(Some(nested_keys(self)?)),
+        }
     }
 }
 
-// The column of a key whose rows have hashes.
-#[tactic(auto, using(crate::proofs::KeyFormLemmas::hash_by_variant))]
-fn flat_key(key: &Series) -> PolarsResult<&FlatSeries>
-    ensures ok { IfOk result (λ column. column_of column.now ≡ value_of key.now) }
-    ensures sound { OnOk result (key_fault (value_of key.now) ≡ None) }
-    ensures err { IfErr result (λ e. Explains e (key_fault (value_of key.now))) }
+// The keys of a column of lists, arrays or structs.
+#[tactic(auto, using(crate::proofs::RowBytesLemmas::rows_stand_for))]
+fn nested_keys(key: &Series) -> PolarsResult<Keys<'_>>
+    requires { kind_of (value_of key.now).dtype ≡ Parts }
+    ensures ok { IfOk result (λ keys. StandFor (value_of key.now) keys) }
+    ensures err { IfErr result IsNoMemory }
 {
-    key.tell_variant();
-    match key {
-        Series::Flat(column) => Ok(column),
-        _ => Err(no_hash(key.name())),
-    }
-}
-
-// That the type of the column of this name has no hash, or want of memory.
-fn no_hash(name: &PlSmallStr) -> PolarsError
-    ensures { Explains result (Some (InvalidOperation OfHash (name_of name.now))) }
-{
-    match name.try_clone() {
-        Ok(name) => PolarsError::InvalidOperation(Operation::Hash, name),
-        Err(e) => e,
-    }
+    let rows = encode_rows_unordered(key.allocator(), slice::from_ref(key))?;
+    Ok(Keys::RowBytes(rows))
 }
 
 /// Which way rows are grouped.
@@ -351,7 +337,7 @@ pub fn group_column<T: Threads + Sync, C: KeyColumn, G: Gate + Sync>(
         groups_of g ≡ tuples_of (C.value column.now) multithreaded sorted pool.now) }
     ensures formed { IfOk result (λ g.
         IsWellFormed (length (C.value column.now).slots) (groups_of g).pairs) }
-    ensures err { IfErr result (λ e. Explains e (key_fault (C.value column.now))) }
+    ensures err { IfErr result IsNoMemory }
 {
     let alloc = column.allocator();
     let Some(keys) = column.keys()? else {
@@ -364,8 +350,8 @@ pub fn group_column<T: Threads + Sync, C: KeyColumn, G: Gate + Sync>(
     group_keys(rt, alloc, &keys, path, sorted, pool, gate)
 }
 
-// All rows as one run, where there are any.
-fn one_run(alloc: Global, rows: usize) -> PolarsResult<GroupsType>
+/// All rows as one run, where there are any.
+pub(crate) fn one_run(alloc: Global, rows: usize) -> PolarsResult<GroupsType>
     requires few { HasRowNumbers rows }
     ensures ok { IfOk result (λ g. groups_of g ≡ run_groups (null_rows rows)) }
     ensures formed { IfOk result (λ g. IsWellFormed rows (groups_of g).pairs) }
@@ -388,9 +374,9 @@ fn no_groups(alloc: Global) -> GroupsType
     GroupsType::from(GroupsIdx::new(Vec::new(alloc), Vec::new(alloc), true))
 }
 
-// The groups of rows by keys in any form. What a thread may be sent is known of a type with a name, and
-// not of a parameter, so each form has its own.
-fn group_keys<T: Threads + Sync, G: Gate + Sync>(
+/// The groups of rows by keys in any form. What a thread may be sent is known of a type with a name, and
+/// not of a parameter, so each form has its own.
+pub(crate) fn group_keys<T: Threads + Sync, G: Gate + Sync>(
     rt: &T,
     alloc: Global,
     keys: &Keys<'_>,
@@ -433,6 +419,11 @@ fn group_keys<T: Threads + Sync, G: Gate + Sync>(
             group_rows(rt, alloc, &rows, path, sorted, pool, gate)
         }
         Keys::Bytes(bytes) => {
+            let rows = ListRows::new(bytes.as_slice(), mixer);
+            group_rows(rt, alloc, &rows, path, sorted, pool, gate)
+        }
+        Keys::RowBytes(bytes) => {
+            let bytes = bytes.byte_slices()?;
             let rows = ListRows::new(bytes.as_slice(), mixer);
             group_rows(rt, alloc, &rows, path, sorted, pool, gate)
         }

@@ -3,6 +3,7 @@
 //! the order of their first rows, and partitions in their own order where no other is asked for.
 #![tactic(auto)]
 
+pub mod by_keys;
 pub mod group_by;
 pub mod into_groups;
 mod plain_words;

@@ -1,13 +1,10 @@
 -- The cells of keys of any type, and rows of them.
-use Rattle.std.proofs.Common.{◌≡◌, Bool, not, ◌==◌, inl, inr, ◌+◌, ◌-◌, ◌<◌, ◌≤◌, ℕ, zero, suc, All, List, [], ◌∷◌, ◌++◌, length, map, take, drop, get_or, refl, ap, arith, ◌∙◌, sym, false, true, add-one}
-use Rattle.std.proofs.Math.Seq.{drop-cons}
-use Rattle.std.specs.List.{AllByRecursion, range_with_len}
-use Rattle.std.proofs.lemmas.Bool.{eq-eqb, eqb-true, cases_Bool}
-use Rattle.std.proofs.lemmas.List.{append-nil, drop_all, length-map, map-append, take_more}
-use Rattle.std.proofs.lemmas.List.Elements.{recursion_from_All}
+use Rattle.std.proofs.Common.{◌≡◌, Bool, not, ◌+◌, ◌-◌, ◌<◌, ℕ, suc, List, [], ◌∷◌, ◌++◌, length, map, take, get_or, refl, ap, arith, ◌∙◌, sym, false, true}
+use Rattle.std.specs.List.{range_with_len}
+use Rattle.std.proofs.lemmas.List.{append-nil, length-map, map-append, take_more}
 use Rattle.std.proofs.lemmas.List.FromFn.{get_or-map-range_with_len, length-map-range_with_len}
 use Rattle.gb_base.specs.DataType.{fields_of}
-use Rattle.gb_defs.specs.Column.{ColumnValue, Frame, all_have_length}
+use Rattle.gb_defs.specs.Column.{ColumnValue, Frame}
 use Rattle.gb_defs.specs.ColumnType.{ColumnType, Fields, Field, ListOf, ArrayOf, StructOf, field_type}
 use Rattle.gb_defs.specs.RowBytes.{cell_bytes, parts_bytes, row_bytes, slot_bytes}
 use Rattle.gb_defs.specs.Slices.{between}
@@ -18,61 +15,9 @@ use Rattle.gb_values.proofs.ValueLemmas.{part_mapped}
 use Rattle.gb_series.specs.Rows.{AreRowsOf, IsPlaced, row_piece}
 use Rattle.gb_series.specs.Structs.{AreFieldsOf, across, field_part, struct_type}
 use Rattle.gb_cols.specs.Column.{pushed}
-use Rattle.gb_rows.specs.Cells.{bytes_held, cells_of, made_cells, marked}
+use Rattle.gb_rows.specs.Cells.{bytes_held, made_cells, marked}
 use Rattle.gb_rows.specs.Keys.{AreFieldCells, AreItemCells, HoldsItems}
-use Rattle.gb_rows.specs.Rows.{AreOfOneLength, row_of_cells, rows_of_cells}
 use Rattle.gb_rows.proofs.ItemLemmas.{array_parts, list_parts}
-
--- ---- rows by their numbers
-
-range_same : {X : Type 0} (f g : ℕ → X) (start n : ℕ) → ((r : ℕ) → r < start + n → f r ≡ g r) → map f (range_with_len start n) ≡ map g (range_with_len start n)
-range_same f g start zero h = refl
-range_same f g start (suc n) h =
-    ap (λ x. x ∷ map f (range_with_len (start + 1) n)) (h start (omega arith))
-    ∙ ap (λ xs. g start ∷ xs) (range_same f g (start + 1) n (λ r lt. h r (omega (arith, lt))))
-
-cell_at : (t : ColumnType) (slots : List Slot) (r : ℕ) → r < length slots → get_or (map (slot_bytes t) slots) r [] ≡ slot_bytes t (slot_at slots r)
-cell_at t [] r lt = absurd (omega (arith, lt))
-cell_at t (s ∷ slots) zero lt = refl
-cell_at t (s ∷ slots) (suc r) lt = cell_at t slots r (omega (arith, lt))
-
-row_at : (keys : Frame) (end r : ℕ) → AllByRecursion (λ key. end ≤ length key.slots) keys → r < end → row_of_cells (map cells_of keys) r ≡ row_bytes keys r
-row_at [] end r long lt = refl
-row_at (key ∷ keys) end r long lt =
-    ap (λ cell. cell ++ row_of_cells (map cells_of keys) r) (cell_at key.dtype key.slots r (omega (arith, long.0, lt)))
-    ∙ ap (λ rest. cell_bytes r key ++ rest) (row_at keys end r long.1 lt)
-
--- rows of the cells of keys are the rows of the keys
-pub rows_are : (keys : Frame) (start end : ℕ) → start ≤ end → All (λ key. end ≤ length key.slots) keys → rows_of_cells start end (map cells_of keys) ≡ map (row_bytes keys) (range_with_len start (end - start))
-rows_are keys start end le long =
-    range_same (row_of_cells (map cells_of keys)) (row_bytes keys) start (end - start)
-    (λ r lt. row_at keys end r (recursion_from_All (λ key. end ≤ length key.slots) keys long) (omega (arith, lt, le)))
-
-slots_long : (t : ColumnType) (slots : List Slot) → length (map (slot_bytes t) slots) ≡ length slots
-slots_long t [] = refl
-slots_long t (s ∷ slots) = ap suc (slots_long t slots)
-
--- the cells are as many
-pub cells_long : (keys : Frame) (count : ℕ) → All (λ key. count ≤ length key.slots) keys → All (λ cells. count ≤ length cells) (map cells_of keys)
-cells_long [] count long k d lt = absurd (omega (arith, lt))
-cells_long (key ∷ keys) count long zero d lt = omega (arith, long 0 key (omega arith), slots_long key.dtype key.slots)
-cells_long (key ∷ keys) count long (suc k) d lt = cells_long keys count (λ j e less. long (suc j) e (omega (arith, less))) k d (omega (arith, lt))
-
--- the rows of one key are its cells
-pub one_key : (key : ColumnValue) → map (row_bytes (key ∷ [])) (range_with_len 0 (length key.slots)) ≡ cells_of key
-one_key key =
-    range_same (row_bytes (key ∷ [])) (λ r. get_or (cells_of key) r []) 0 (length key.slots)
-    (λ r lt. append-nil (cell_bytes r key) ∙ sym (cell_at key.dtype key.slots r (omega (arith, lt))))
-    ∙ all_of (cells_of key) (length key.slots) (slots_long key.dtype key.slots)
-  where
-    from_place : (cells : List (List ℕ)) (start n : ℕ) → start + n ≡ length cells → map (λ r. get_or cells r []) (range_with_len start n) ≡ drop start cells
-    from_place cells start zero e = sym (drop_all start cells (omega (arith, e)))
-    from_place cells start (suc n) e =
-        ap (λ rest. get_or cells start [] ∷ rest) (from_place cells (start + 1) n (omega (arith, e)) ∙ ap (λ k. drop k cells) (add-one start))
-        ∙ sym (drop-cons cells start [] (omega (arith, e)))
-
-    all_of : (cells : List (List ℕ)) (n : ℕ) → length cells ≡ n → map (λ r. get_or cells r []) (range_with_len 0 n) ≡ cells
-    all_of cells n e = from_place cells 0 n (omega (arith, e))
 
 -- ---- lists and arrays
 
@@ -159,23 +104,6 @@ made_more t slots row made new cell lt sofar more is =
     ∙ ap (λ c. map (slot_bytes t) (take row slots) ++ c ∷ []) is
     ∙ sym (map-append (slot_bytes t) (take row slots) (slot_at slots row ∷ []))
     ∙ ap (map (slot_bytes t)) (sym (take_more slots row Nil lt))
-
--- ---- columns of one length
-
--- one column is as long as the first
-pub one_length : (c : ColumnValue) → AreOfOneLength (c ∷ [])
-one_length c = rw (eq-eqb (length c.slots) (length c.slots) refl) refl
-
-first_long : (n : ℕ) (c : ColumnValue) (cs : Frame) → all_have_length n (c ∷ cs) ≡ true → (length c.slots ≡ n) × (all_have_length n cs ≡ true)
-first_long n c cs e = elim (cases_Bool (length c.slots == n)) [
-  | inl t ↦ (eqb-true (length c.slots) n t, rw t at e)
-  | inr f ↦ cc (rw f at e)
-]
-
-pub all_long : (n : ℕ) (keys : Frame) → all_have_length n keys ≡ true → All (λ key. n ≤ length key.slots) keys
-all_long n [] e k d lt = absurd (omega (arith, lt))
-all_long n (c ∷ cs) e zero d lt = omega (arith, (first_long n c cs e).0)
-all_long n (c ∷ cs) e (suc k) d lt = all_long n cs (first_long n c cs e).1 k d (omega (arith, lt))
 
 -- ---- whether a slot is a null
 

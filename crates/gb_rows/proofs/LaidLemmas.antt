@@ -1,14 +1,16 @@
 -- What rows come to that take the cells of several columns, one column after another.
-use Rattle.std.proofs.Common.{◌≡◌, ◌≤◌, ◌<◌, ◌+◌, ◌-◌, ℕ, zero, suc, All, List, [], ◌∷◌, ◌++◌, length, map, take, drop, get_or, replicate, refl, ap, arith, ◌∙◌, sym, add-one, append_assoc, length-append, zero-add}
-use Rattle.std.specs.List.{AllByRecursion, range_with_len}
+use Rattle.std.proofs.Common.{◌≡◌, ◌≤◌, ◌<◌, ◌+◌, ◌-◌, ℕ, zero, suc, Bool, true, false, not, ◌&&◌, All, List, [], ◌∷◌, ◌++◌, length, map, take, drop, get_or, replicate, refl, ap, arith, ◌∙◌, sym, add-one, append_assoc, length-append, zero-add}
+use Rattle.std.specs.List.{AllByRecursion, list_any, range_with_len}
+use Rattle.std.proofs.Math.Bool.{and-true, and_assoc}
+use Rattle.std.proofs.lemmas.Bool.{or_parts}
 use Rattle.std.proofs.lemmas.List.{append-nil, drop_all, length-map, take-append-drop}
 use Rattle.std.proofs.lemmas.List.Elements.{recursion_from_All}
 use Rattle.std.proofs.lemmas.List.FromFn.{length-map-range_with_len, length-range_with_len}
 use Rattle.std.proofs.lemmas.Simd.{splat_is_map}
 use Rattle.std.proofs.Math.Seq.{drop-cons}
 use Rattle.gb_defs.specs.Slices.{between}
-use Rattle.gb_rows.specs.Cells.{behind, longer}
-use Rattle.gb_rows.specs.Rows.{laid, row_of_cells, rows_of_cells}
+use Rattle.gb_rows.specs.Cells.{behind, is_null_cell, longer, still_full}
+use Rattle.gb_rows.specs.Rows.{full_of_cells, is_full, laid, row_of_cells, rows_of_cells}
 use Rattle.gb_rows.specs.Zipped.{IsZipped, zip_onto}
 
 -- rows that took items from the first on
@@ -95,6 +97,44 @@ pub laid_rows : (columns : List (List (List ℕ))) (start end : ℕ) (rows : Lis
 laid_rows columns start end rows le h e =
     laid_from behind columns start end [] rows le h e
     ∙ map_same (λ r. folded behind columns r []) (row_of_cells columns) (λ r. folded_behind columns r []) (range_with_len start (end - start))
+
+folded_full : (columns : List (List (List ℕ))) (r : ℕ) (full : Bool) → folded still_full columns r full ≡ (full && is_full columns r)
+folded_full [] r full = sym (and-true full)
+folded_full (cells ∷ columns) r full =
+    let value = not (is_null_cell (get_or cells r [])) in
+    folded_full columns r (full && value) ∙ and_assoc full value (is_full columns r)
+
+-- which rows have a value in every column
+pub laid_full : (columns : List (List (List ℕ))) (start end : ℕ) (rows : List Bool) → start ≤ end → All (λ cells. end ≤ length cells) columns → rows ≡ replicate (end - start) true
+    → laid still_full (map (between start end) columns) rows ≡ full_of_cells start end columns
+laid_full columns start end rows le h e =
+    laid_from still_full columns start end true rows le h e
+    ∙ map_same (λ r. folded still_full columns r true) (is_full columns) (λ r. folded_full columns r true) (range_with_len start (end - start))
+
+-- ---- cells of which none is a null's
+
+any_rest : (n : ℕ) (cells : List (List ℕ)) → list_any is_null_cell cells ≡ false → list_any is_null_cell (drop n cells) ≡ false
+any_rest zero cells e = e
+any_rest (suc n) [] e = refl
+any_rest (suc n) (cell ∷ cells) e = any_rest n cells (or_parts (is_null_cell cell) (list_any is_null_cell cells) e).1
+
+any_first : (n : ℕ) (cells : List (List ℕ)) → list_any is_null_cell cells ≡ false → list_any is_null_cell (take n cells) ≡ false
+any_first zero cells e = refl
+any_first (suc n) [] e = refl
+any_first (suc n) (cell ∷ cells) e =
+    let both = or_parts (is_null_cell cell) (list_any is_null_cell cells) e in
+    rw both.0 (any_first n cells both.1)
+
+zip_full : (cells : List (List ℕ)) (rows : List Bool) → list_any is_null_cell cells ≡ false → zip_onto still_full cells rows ≡ rows
+zip_full [] rows e = refl
+zip_full (cell ∷ cells) [] e = refl
+zip_full (cell ∷ cells) (full ∷ rows) e =
+    let both = or_parts (is_null_cell cell) (list_any is_null_cell cells) e in
+    ap (λ null. (full && not null) ∷ zip_onto still_full cells rows) both.0 ∙ ap (λ f. f ∷ zip_onto still_full cells rows) (and-true full) ∙ ap (λ rs. full ∷ rs) (zip_full cells rows both.1)
+
+-- they change nothing
+pub none_null : (start end : ℕ) (cells : List (List ℕ)) (rows : List Bool) → list_any is_null_cell cells ≡ false → rows ≡ zip_onto still_full (between start end cells) rows
+none_null start end cells rows e = sym (zip_full (between start end cells) rows (any_first (end - start) (drop start cells) (any_rest start cells e)))
 
 -- rows of no bytes
 pub no_bytes : (counts : List ℕ) → map {B = List ℕ} (λ _. []) counts ≡ replicate (length counts) []

@@ -1,3 +1,4 @@
+pub mod LengthLemmas
 pub mod RangeLemmas
 pub mod CellLemmas
 pub mod AlikeLemmas
@@ -7,5 +8,10 @@ pub mod ZeroLemmas
 pub mod LaidLemmas
 pub mod NumberLemmas
 pub mod PrefixLemmas
+pub mod ToldLemmas
+pub mod RowLemmas
+pub mod PartLemmas
+pub mod LentLemmas
 pub mod ItemLemmas
 pub mod KeyLemmas
+pub mod ContextLemmas

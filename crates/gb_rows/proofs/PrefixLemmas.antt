@@ -3,12 +3,11 @@ use Rattle.std.proofs.Common.{◌≡◌, ◌⊎◌, inl, inr, pos, ◌+◌, ℕ,
 use Rattle.std.specs.Int.{Width, w8, w32, w64, w128, byte_len, cast_unsigned, FitsUnsigned}
 use Rattle.std.specs.Prelude.{FitsSigned, bit_xor, ◌^◌}
 use mir.Val.{hbits}
-use Rattle.gb_defs.specs.ColumnType.{ColumnType, Fields, FlatType, Flat, ListOf, ArrayOf, StructOf, Null, Boolean, Unsigned, Signed, Decimal, Date, Time, Datetime, Duration, String, Binary, BinaryOffset, Categorical, Enum, FitsBytes, field_count, field_type}
+use Rattle.gb_defs.specs.ColumnType.{ColumnType, Fields, FlatType, Flat, ListOf, ArrayOf, StructOf, Null, Boolean, Unsigned, Signed, Decimal, Date, Time, Datetime, Duration, String, Binary, BinaryOffset, Categorical, Enum, Fits, FitsBytes, FitsNumber, FitsParts, field_count, field_type}
 use Rattle.gb_defs.specs.RowBytes.{cell_bytes, ended_bytes, number_bytes, parts_bytes, row_bytes, signed_bytes, slot_bytes, unsigned_bytes}
 use Rattle.gb_defs.specs.Slot.{Slot, Slots, Nil, Num, Bytes, Items, End, And, slot_at}
 use Rattle.gb_defs.specs.Column.{Frame}
 use Rattle.std.specs.List.{AllByRecursion}
-use Rattle.gb_rows.specs.Told.{ArePartsTold, IsTold, IsToldNumber}
 use Rattle.gb_rows.proofs.NumberLemmas.{high_length, signed_told, unsigned_told}
 
 -- lists of one length, and what stands behind them
@@ -38,7 +37,7 @@ flag_fits : (n : ℤ) → (n ≡ pos 0) ⊎ (n ≡ pos 1) → FitsUnsigned w8 n
 flag_fits n (inl e) = rw e (record { le = tt }, record { lt = tt })
 flag_fits n (inr e) = rw e (record { le = tt }, record { lt = tt })
 
-number_cut : (t : FlatType) (n m : ℤ) (u v : List ℕ) → IsToldNumber t n → IsToldNumber t m → number_bytes t n ++ u ≡ number_bytes t m ++ v → (n ≡ m) × (u ≡ v)
+number_cut : (t : FlatType) (n m : ℤ) (u v : List ℕ) → FitsNumber t n → FitsNumber t m → number_bytes t n ++ u ≡ number_bytes t m ++ v → (n ≡ m) × (u ≡ v)
 number_cut Null n m u v a b e = absurd a
 number_cut Boolean n m u v a b e = unsigned_cut w8 n m u v (flag_fits n a) (flag_fits m b) e
 number_cut (Unsigned w) n m u v a b e = unsigned_cut w n m u v a b e
@@ -51,8 +50,8 @@ number_cut (Duration unit) n m u v a b e = signed_cut w64 n m u v a b e
 number_cut String n m u v a b e = absurd a
 number_cut Binary n m u v a b e = absurd a
 number_cut BinaryOffset n m u v a b e = absurd a
-number_cut (Categorical texts ordering) n m u v a b e = unsigned_cut w32 n m u v a b e
-number_cut (Enum texts ordering) n m u v a b e = unsigned_cut w32 n m u v a b e
+number_cut (Categorical texts ordering) n m u v a b e = unsigned_cut w32 n m u v a.0 b.0 e
+number_cut (Enum texts ordering) n m u v a b e = unsigned_cut w32 n m u v a.0 b.0 e
 
 -- two zeros end bytes, and a zero inside has 255 behind it
 ended_cut : (a b u v : List ℕ) → ended_bytes a ++ u ≡ ended_bytes b ++ v → (a ≡ b) × (u ≡ v)
@@ -74,7 +73,7 @@ ended_cut (suc x ∷ a) (suc y ∷ b) u v e =
     (ap (λ z. z ∷ a) head ∙ ap (λ zs. suc y ∷ zs) more.0, more.1)
 
 -- a number and bytes are of no one type
-apart : (t : FlatType) (n : ℤ) (bytes : List ℕ) → IsToldNumber t n → FitsBytes t bytes → ⊥
+apart : (t : FlatType) (n : ℤ) (bytes : List ℕ) → FitsNumber t n → FitsBytes t bytes → ⊥
 apart Null n bytes a b = a
 apart Boolean n bytes a b = b
 apart (Unsigned w) n bytes a b = b
@@ -91,7 +90,7 @@ apart (Categorical texts ordering) n bytes a b = b
 apart (Enum texts ordering) n bytes a b = b
 
 -- a flat type has no parts
-no_parts : (t : FlatType) (k : ℕ) (ss : Slots) → ArePartsTold (Flat t) k ss → ⊥
+no_parts : (t : FlatType) (k : ℕ) (ss : Slots) → FitsParts (Flat t) k ss → ⊥
 no_parts t k End h = h
 no_parts t k (And s ss) h = no_parts t (suc k) ss h.1
 
@@ -100,16 +99,16 @@ abbrev part_count : Slots → ℕ
 part_count End = 0
 part_count (And s ss) = suc (part_count ss)
 
-array_parts : (t : ColumnType) (width k : ℕ) (ss : Slots) → ArePartsTold (ArrayOf t width) k ss → k + part_count ss ≡ width
+array_parts : (t : ColumnType) (width k : ℕ) (ss : Slots) → FitsParts (ArrayOf t width) k ss → k + part_count ss ≡ width
 array_parts t width k End h = omega (arith, h)
 array_parts t width k (And s ss) h = omega (arith, array_parts t width (suc k) ss h.1)
 
-struct_parts : (fs : Fields) (k : ℕ) (ss : Slots) → ArePartsTold (StructOf fs) k ss → k + part_count ss ≡ field_count fs
+struct_parts : (fs : Fields) (k : ℕ) (ss : Slots) → FitsParts (StructOf fs) k ss → k + part_count ss ≡ field_count fs
 struct_parts fs k End h = omega (arith, h)
 struct_parts fs k (And s ss) h = omega (arith, struct_parts fs (suc k) ss h.1)
 
 mutual
-  pub slot_cut : (t : ColumnType) (a b : Slot) (u v : List ℕ) → IsTold t a → IsTold t b → slot_bytes t a ++ u ≡ slot_bytes t b ++ v → (a ≡ b) × (u ≡ v)
+  pub slot_cut : (t : ColumnType) (a b : Slot) (u v : List ℕ) → Fits t a → Fits t b → slot_bytes t a ++ u ≡ slot_bytes t b ++ v → (a ≡ b) × (u ≡ v)
   slot_cut t Nil Nil u v h k e = (refl, cc)
   slot_cut t Nil (Num m) u v h k e = cc
   slot_cut t Nil (Bytes bs) u v h k e = cc
@@ -176,7 +175,7 @@ mutual
       let both = parts_cut whole 0 ss rs u v h k tail in
       (ap (λ x. Items x) both.0, both.1)
 
-  parts_cut : (t : ColumnType) (k : ℕ) (as' bs : Slots) (u v : List ℕ) → ArePartsTold t k as' → ArePartsTold t k bs → parts_bytes t k as' ++ u ≡ parts_bytes t k bs ++ v → (as' ≡ bs) × (u ≡ v)
+  parts_cut : (t : ColumnType) (k : ℕ) (as' bs : Slots) (u v : List ℕ) → FitsParts t k as' → FitsParts t k bs → parts_bytes t k as' ++ u ≡ parts_bytes t k bs ++ v → (as' ≡ bs) × (u ≡ v)
   parts_cut (Flat f) k End bs u v h g e = absurd h
   parts_cut (Flat f) k (And s ss) bs u v h g e = absurd (no_parts f (suc k) ss h.1)
   parts_cut (ListOf t) k End End u v h g e = (refl, cc)
@@ -213,12 +212,12 @@ mutual
 
 -- ---- rows
 
--- a row's slots are told by their bytes
-abbrev pub IsRowTold : Frame → ℕ → Type 0
-IsRowTold keys row = AllByRecursion (λ c. IsTold c.dtype (slot_at c.slots row)) keys
+-- the slots of a row fit their types
+abbrev pub FitsRow : Frame → ℕ → Type 0
+FitsRow keys row = AllByRecursion (λ c. Fits c.dtype (slot_at c.slots row)) keys
 
 -- rows tell their slots, and none is the beginning of another
-pub row_cut : (keys : Frame) (i j : ℕ) (u v : List ℕ) → IsRowTold keys i → IsRowTold keys j → row_bytes keys i ++ u ≡ row_bytes keys j ++ v
+pub row_cut : (keys : Frame) (i j : ℕ) (u v : List ℕ) → FitsRow keys i → FitsRow keys j → row_bytes keys i ++ u ≡ row_bytes keys j ++ v
     → AllByRecursion (λ c. slot_at c.slots i ≡ slot_at c.slots j) keys × (u ≡ v)
 row_cut [] i j u v h k e = (tt, e)
 row_cut (c ∷ cs) i j u v h k e =

@@ -5,3 +5,6 @@ pub mod Buffer
 pub mod Rows
 pub mod Keys
 pub mod Told
+pub mod Parts
+pub mod Lent
+pub mod Context

@@ -1,23 +1,19 @@
--- Slots that their bytes in a row tell.
-use Rattle.std.specs.Prelude.{ℕ, suc, ℤ}
-use Rattle.std.specs.Int.{w32, FitsUnsigned}
-use Rattle.gb_defs.specs.ColumnType.{ColumnType, FlatType, Categorical, Enum, FitsBytes, FitsCount, FitsFlat, FitsNumber, part_type}
-use Rattle.gb_defs.specs.Slot.{Slot, Slots, Nil, Num, Bytes, Items, End, And}
+-- What the bytes of rows tell of the rows.
+use Rattle.std.specs.Prelude.{◌≡◌, ℕ, ◌<◌, List, [], ◌++◌, All, map}
+use Rattle.std.specs.Str.{bytes_eq}
+use Rattle.gb_defs.specs.Classes.{agree_by}
+use Rattle.gb_defs.specs.Column.{ColumnValue, Frame, frame_height}
+use Rattle.gb_defs.specs.ColumnType.{Fits}
+use Rattle.gb_defs.specs.RowBytes.{row_bytes}
 
--- a code is one of 32 bits, and any other number fits its type
-abbrev pub IsToldNumber : FlatType → ℤ → Type 0
-IsToldNumber (Categorical texts ordering) n = FitsUnsigned w32 n
-IsToldNumber (Enum texts ordering) n = FitsUnsigned w32 n
-IsToldNumber t n = FitsNumber t n
+-- rows have the same bytes exactly where all their slots are the same, and none is the beginning of another
+pub record AreToldByRows (keys : Frame) : Type 0 where
+  pub same : (i j : ℕ) → i < frame_height keys → j < frame_height keys → bytes_eq (row_bytes keys i) (row_bytes keys j) ≡ agree_by (map (λ key. key.slots) keys) i j
+  pub apart : (i j : ℕ) → i < frame_height keys → j < frame_height keys → (more : List ℕ) → row_bytes keys i ++ more ≡ row_bytes keys j → more ≡ []
 
-abbrev mutual
-  pub IsTold : ColumnType → Slot → Type 0
-  IsTold t Nil = Unit {0}
-  IsTold t (Num n) = FitsFlat t (λ f. IsToldNumber f n)
-  IsTold t (Bytes bytes) = FitsFlat t (λ f. FitsBytes f bytes)
-  IsTold t (Items slots) = ArePartsTold t 0 slots
+-- the slots of a key fit its type
+abbrev pub FitsType : ColumnValue → Type 0
+FitsType key = All (Fits key.dtype) key.slots
 
-  -- the parts from the k-th on
-  pub ArePartsTold : ColumnType → ℕ → Slots → Type 0
-  ArePartsTold t k End = FitsCount t k
-  ArePartsTold t k (And s ss) = IsTold (part_type t k) s × ArePartsTold t (suc k) ss
+abbrev pub FitTypes : Frame → Type 0
+FitTypes keys = All FitsType keys

@@ -106,9 +106,9 @@ fn all_cells(alloc: Global, keys: &[Series]) -> PolarsResult<Vec<KeyCells<'_>>>
     Ok(made)
 }
 
-// The cells of a key.
+/// The cells of a key.
 #[cycle(encode)]
-fn cells_of_key(key: &Series) -> PolarsResult<KeyCells<'_>>
+pub(crate) fn cells_of_key(key: &Series) -> PolarsResult<KeyCells<'_>>
     ensures ok { IfOk result (λ made. key_cells made ≡ cells_of (value_of key.now)) }
     ensures err { IfErr result IsNoMemory }
 {

@@ -3,14 +3,19 @@
 #![tactic(auto)]
 
 mod cell_sink;
+pub mod context;
 mod encode;
+mod full_rows;
 mod keys;
+mod lent_key;
 mod logical_cells;
 mod nested_cells;
 mod row_buffer;
 mod row_cells;
 mod row_lengths;
+mod row_nulls;
 pub mod rows_encoded;
 #[cfg(test)]
 mod tests;
 pub mod unordered;
+pub mod vertical;

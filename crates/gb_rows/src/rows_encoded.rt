@@ -5,6 +5,7 @@ ghost use Rattle.gb_defs.specs.Column.{fresh_column};
 ghost use Rattle.gb_defs.specs.ColumnType as typed;
 ghost use Rattle.gb_defs.specs.Slot.{Bytes};
 ghost use Rattle.gb_base.specs.PlSmallStr.{IsNoMemory};
+ghost use Rattle.gb_values.specs.Array.{flagged_slots};
 
 use crate::row_buffer::RowBuffer;
 use gb_base::error::PolarsResult;
@@ -76,5 +77,15 @@ impl RowsEncoded {
     {
         let RowsEncoded { alloc, name, rows } = self;
         ChunkedArray::from_chunk(alloc, name, NullableArray::from_values(alloc, rows))
+    }
+
+    /// The same with a null for each row whose flag is false.
+    pub(crate) fn into_nullable(self, full: Vec<bool>) -> BinaryOffsetChunked
+        requires { length full.items ≡ length self }
+        ensures { let slots = flagged_slots (map (λ bytes. Bytes bytes) self) full.items in
+            result ≡ fresh_column [] (typed.Flat typed.BinaryOffset) slots }
+    {
+        let RowsEncoded { alloc, name, rows } = self;
+        ChunkedArray::from_chunk(alloc, name, NullableArray::from_flags(rows, full))
     }
 }

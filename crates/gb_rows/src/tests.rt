@@ -1,11 +1,17 @@
 //! Worked rows of flat columns.
 
+use crate::context::{RowEncodingContext, get_row_encoding_context};
 use crate::rows_encoded::RowsEncoded;
 use crate::unordered::{
     _get_rows_encoded_ca_unordered, _get_rows_encoded_unordered, encode_rows_unordered,
 };
-use gb_base::data_type::CategoricalOrdering;
-use gb_base::error::PolarsResult;
+use crate::vertical::{
+    encode_rows_vertical_par_unordered, encode_rows_vertical_par_unordered_broadcast_nulls,
+};
+use gb_base::data_type::{CategoricalOrdering, DataType};
+use gb_base::error::{PolarsError, PolarsResult};
+use gb_base::field::Field;
+use gb_base::pool::Pool;
 use gb_base::small_str::PlSmallStr;
 use gb_cols::binary::BinaryOffsetChunked;
 use gb_cols::boolean::BooleanChunked;
@@ -23,6 +29,7 @@ use gb_series::series::Series;
 use std::alloc::Global;
 use std::slice;
 use std::test::Fail;
+use std::thread::Threads;
 
 fn name(alloc: Global) -> PolarsResult<PlSmallStr> {
     Ok(PlSmallStr::from_str(alloc, "c")?)
@@ -47,7 +54,7 @@ fn cells_are(column: &Series, wanted: &[&[u8]]) -> bool {
     }
 }
 
-#[tactic(auto, using(crate::proofs::KeyLemmas::one_length))]
+#[tactic(auto, using(crate::proofs::LengthLemmas::one_length))]
 fn rows_of(column: &Series) -> PolarsResult<RowsEncoded> {
     _get_rows_encoded_unordered(column.allocator(), slice::from_ref(column))
 }
@@ -232,4 +239,265 @@ fn has_no_rows(alloc: Global, frame: &DataFrame) -> bool {
         Ok(rows) => rows.len() == 0,
         Err(_) => false,
     }
+}
+
+// ---- each call that makes rows
+
+fn below_zero(alloc: Global) -> PolarsResult<Series> {
+    let values = [Some(-1), None];
+    Ok(Int8Chunked::from_slice_options(alloc, name(alloc)?, &values)?.into_series())
+}
+
+fn above_zero(alloc: Global) -> PolarsResult<Series> {
+    let values = [Some(1), None];
+    Ok(Int8Chunked::from_slice_options(alloc, name(alloc)?, &values)?.into_series())
+}
+
+// Whether a column of rows has these.
+fn has_rows(rows: PolarsResult<BinaryOffsetChunked>, wanted: &[Option<&[u8]>]) -> bool {
+    match rows {
+        Ok(rows) => are_slots(&rows, wanted),
+        Err(_) => false,
+    }
+}
+
+fn are_slots(rows: &BinaryOffsetChunked, wanted: &[Option<&[u8]>]) -> bool {
+    if rows.len() != wanted.len() {
+        return false;
+    }
+    for row in 0..rows.len() {
+        if rows.get(row) != wanted[row] {
+            return false;
+        }
+    }
+    true
+}
+
+#[tactic(auto, using(crate::proofs::LengthLemmas::one_length))]
+fn in_one_chunk(column: &Series) -> PolarsResult<BinaryOffsetChunked> {
+    encode_rows_unordered(column.allocator(), slice::from_ref(column))
+}
+
+#[tactic(auto, using(crate::proofs::LengthLemmas::one_length))]
+fn with_a_name(column: &Series) -> PolarsResult<BinaryOffsetChunked> {
+    let alloc = column.allocator();
+    _get_rows_encoded_ca_unordered(alloc, name(alloc)?, slice::from_ref(column))
+}
+
+#[tactic(auto, using(crate::proofs::LengthLemmas::one_length))]
+fn by_workers<T: Threads + Sync>(
+    rt: &T,
+    column: &Series,
+    pool: &Pool,
+) -> PolarsResult<BinaryOffsetChunked> {
+    encode_rows_vertical_par_unordered(rt, column.allocator(), &[column], pool)
+}
+
+#[tactic(auto, using(crate::proofs::LengthLemmas::one_length))]
+fn broadcast<T: Threads + Sync>(
+    rt: &T,
+    column: &Series,
+    pool: &Pool,
+) -> PolarsResult<BinaryOffsetChunked> {
+    encode_rows_vertical_par_unordered_broadcast_nulls(rt, column.allocator(), &[column], pool)
+}
+
+fn holds_of<F: Fn(&Series) -> bool>(column: PolarsResult<Series>, test: F) -> bool
+    requires { F.IsAlwaysCallable test }
+{
+    match column {
+        Ok(column) => test(&column),
+        Err(_) => false,
+    }
+}
+
+#[test]
+fn each_call(rt: HostRuntime) -> Result<(), Fail> {
+    let alloc = rt.alloc();
+    let one = Pool::new(1, 1, 1, 1, 0);
+    let cells = [Some([1, 0x7f].as_slice()), Some([0].as_slice())];
+    assert!(rt; has_cells(below_zero(alloc), &[&[1, 0x7f], &[0]]));
+    assert!(rt;
+        holds_of(
+            below_zero(alloc),
+            |column| has_rows(in_one_chunk(column), &cells)
+        )
+    );
+    assert!(rt;
+        holds_of(
+            below_zero(alloc),
+            |column| has_rows(with_a_name(column), &cells)
+        )
+    );
+    assert!(rt;
+        holds_of(
+            below_zero(alloc),
+            |column| has_rows(by_workers(&rt, column, &one), &cells)
+        )
+    );
+    Ok(())
+}
+
+#[test]
+fn nulls_of_rows(rt: HostRuntime) -> Result<(), Fail> {
+    let alloc = rt.alloc();
+    let one = Pool::new(1, 1, 1, 1, 0);
+    let cells = [Some([1, 0x81].as_slice()), None];
+    assert!(rt;
+        holds_of(
+            above_zero(alloc),
+            |column| has_rows(broadcast(&rt, column, &one), &cells)
+        )
+    );
+    Ok(())
+}
+
+// ---- two keys with nulls, by several workers
+
+fn small_key(alloc: Global) -> PolarsResult<Series> {
+    let values = [Some(1), None, Some(-1)];
+    Ok(Int8Chunked::from_slice_options(alloc, name(alloc)?, &values)?.into_series())
+}
+
+fn flag_key(alloc: Global) -> PolarsResult<Series> {
+    let values = [Some(false), Some(true), None];
+    Ok(BooleanChunked::from_slice_options(alloc, name(alloc)?, &values)?.into_series())
+}
+
+#[tactic(auto, using(crate::proofs::LengthLemmas::two_lengths))]
+fn two_by_workers<T: Threads + Sync>(
+    rt: &T,
+    first: &Series,
+    second: &Series,
+    pool: &Pool,
+) -> PolarsResult<BinaryOffsetChunked> {
+    if second.len() != first.len() {
+        return Err(PolarsError::NoMemory);
+    }
+    encode_rows_vertical_par_unordered(rt, first.allocator(), &[first, second], pool)
+}
+
+#[tactic(auto, using(crate::proofs::LengthLemmas::two_lengths))]
+fn two_broadcast<T: Threads + Sync>(
+    rt: &T,
+    first: &Series,
+    second: &Series,
+    pool: &Pool,
+) -> PolarsResult<BinaryOffsetChunked> {
+    if second.len() != first.len() {
+        return Err(PolarsError::NoMemory);
+    }
+    encode_rows_vertical_par_unordered_broadcast_nulls(
+        rt,
+        first.allocator(),
+        &[first, second],
+        pool,
+    )
+}
+
+// Whether the rows of two keys are as they should be, in so many chunks.
+fn are_as_wanted<T: Threads + Sync>(
+    rt: &T,
+    first: &Series,
+    second: &Series,
+    pool: &Pool,
+    n_chunks: usize,
+) -> bool {
+    let cells = [
+        Some([1, 0x81, 1, 0].as_slice()),
+        Some([0, 1, 1].as_slice()),
+        Some([1, 0x7f, 0].as_slice()),
+    ];
+    let full = [Some([1, 0x81, 1, 0].as_slice()), None, None];
+    has_chunks(two_by_workers(rt, first, second, pool), &cells, n_chunks)
+        && has_chunks(two_broadcast(rt, first, second, pool), &full, n_chunks)
+}
+
+fn has_chunks(
+    rows: PolarsResult<BinaryOffsetChunked>,
+    wanted: &[Option<&[u8]>],
+    n_chunks: usize,
+) -> bool {
+    match rows {
+        Ok(rows) => rows.n_chunks() == n_chunks && are_slots(&rows, wanted),
+        Err(_) => false,
+    }
+}
+
+#[test]
+fn several_workers(rt: HostRuntime) -> Result<(), Fail> {
+    let alloc = rt.alloc();
+    let one = Pool::new(1, 1, 1, 1, 0);
+    let three = Pool::new(3, 1, 1, 1, 0);
+    assert!(rt;
+        holds_of(small_key(alloc), |first| {
+            holds_of(flag_key(alloc), |second| {
+                are_as_wanted(&rt, first, second, &one, 1)
+                    && are_as_wanted(&rt, first, second, &three, 3)
+            })
+        })
+    );
+    Ok(())
+}
+
+// ---- contexts
+
+fn has_context<F: Fn(&Option<RowEncodingContext>) -> bool>(
+    alloc: Global,
+    dtype: &DataType,
+    test: F,
+) -> bool
+    requires { F.IsAlwaysCallable test }
+{
+    match get_row_encoding_context(alloc, dtype, false) {
+        Ok(context) => test(&context),
+        Err(_) => false,
+    }
+}
+
+fn has_digits(context: &Option<RowEncodingContext>, digits: usize) -> bool {
+    match context {
+        Some(RowEncodingContext::Decimal(precision)) => *precision == digits,
+        _ => false,
+    }
+}
+
+// Whether it is that of a struct of a plain field and of a decimal of ten digits.
+fn is_of_both(context: &Option<RowEncodingContext>) -> bool {
+    match context {
+        Some(RowEncodingContext::Struct(fields)) => {
+            fields.len() == 2 && fields[0].is_none() && has_digits(&fields[1], 10)
+        }
+        _ => false,
+    }
+}
+
+fn both(alloc: Global) -> PolarsResult<DataType> {
+    let mut fields = Vec::with_capacity(alloc, 2)?;
+    fields.push(Field {
+        name: name(alloc)?,
+        dtype: DataType::Int32,
+    })?;
+    fields.push(Field {
+        name: name(alloc)?,
+        dtype: DataType::Decimal(Some(10), Some(2)),
+    })?;
+    Ok(DataType::Struct(fields))
+}
+
+fn has_both_contexts(alloc: Global) -> bool {
+    match both(alloc) {
+        Ok(dtype) => has_context(alloc, &dtype, |context| is_of_both(context)),
+        Err(_) => false,
+    }
+}
+
+#[test]
+fn contexts(rt: HostRuntime) -> Result<(), Fail> {
+    let alloc = rt.alloc();
+    let decimal = DataType::Decimal(None, Some(2));
+    assert!(rt; has_context(alloc, &DataType::Int32, |context| context.is_none()));
+    assert!(rt; has_context(alloc, &decimal, |context| has_digits(context, 38)));
+    assert!(rt; has_both_contexts(alloc));
+    Ok(())
 }

@@ -1,24 +1,26 @@
 -- What a grouping comes to, by keys that its frame has.
-use Rattle.std.proofs.Common.{◌≡◌, ℕ, ◌<◌, ◌≤◌, Bool, true, List, [], ◌∷◌, Option, Some, None, Result, Ok, Err, length, map, refl, sym, ◌∙◌, ap, subst, arith, All, eq-eqb, is_none, if◌then◌else◌}
+use Rattle.std.proofs.Common.{◌≡◌, ℕ, ◌<◌, ◌≤◌, Bool, true, List, [], ◌∷◌, ◌++◌, ◌+◌, drop, get_or, take, Option, Some, None, Result, Ok, Err, length, map, refl, sym, ◌∙◌, ap, subst, arith, All, eq-eqb, is_none, if◌then◌else◌}
 use Rattle.std.specs.Option.{option_or}
 use Rattle.std.specs.Result.{result_err}
-use Rattle.std.proofs.lemmas.List.{length-map}
-use Rattle.std.proofs.lemmas.List.Elements.{All-map}
+use Rattle.std.proofs.lemmas.List.{drop_more, length-map, map-append, take-append-drop}
+use Rattle.std.proofs.lemmas.List.Elements.{All-from_recursion, All-map}
+use Rattle.std.specs.List.{AllByRecursion}
 use Rattle.std.proofs.lemmas.Bool.{le-ltb}
 use Rattle.gb_defs.specs.Column.{ColumnValue, Frame, IsFrame, all_have_length, content, find_column, first_repeated, frame_height}
-use Rattle.gb_defs.specs.Classes.{agree_by, class, firsts, groups, rows_below, same_slot}
+use Rattle.gb_defs.specs.Classes.{agree_by, class, firsts, groups, rows_below}
 use Rattle.gb_defs.specs.Fold.{Method}
 use Rattle.gb_defs.specs.Groups.{AreMembers, Grouping, HasRowNumbers, IsWellFormed, first_of, lists_in, rows_of_pair}
 use Rattle.gb_defs.specs.Answer.{agree_of, answer_names, height_of, kept_rows}
-use Rattle.gb_defs.specs.Fault.{ColumnNotFound, Fault, duplicate_of, fault, missing_fault, rows_fault, shape_fault, unfit_fault}
+use Rattle.gb_defs.specs.Fault.{ColumnNotFound, Fault, duplicate_of, fault, keyless_fault, missing_fault, rows_fault, shape_fault, unfit_fault}
 use Rattle.gb_defs.specs.Outcome.{column_onto, find_columns, grouped, grouped_if}
-use Rattle.gb_defs.proofs.AnswerLemmas.{AreHigh, agree_high, agree_one, answer_high, answered, faulty, groups_firsts, groups_lists}
+use Rattle.gb_defs.proofs.AnswerLemmas.{AreHigh, agree_high, answer_high, answered, faulty, groups_firsts, groups_lists}
 use Rattle.gb_defs.proofs.ClassesLemmas.{firsts_few}
 use Rattle.gb_base.specs.PolarsError.{IsCause}
-use Rattle.gb_paths.specs.Keys.{key_fault}
+use Rattle.gb_paths.specs.Tuples.{slots_of}
+use Rattle.gb_rows.specs.Rows.{AreOfOneLength}
 use Rattle.gb_series.specs.Frame.{frame_fault, missing_column}
-use Rattle.gb_series.proofs.FrameLemmas.{found_long}
-use Rattle.gb_run.specs.Grouping.{answer_parts, firsts_in, hashed_fault}
+use Rattle.gb_series.proofs.FrameLemmas.{found_long, long_yes}
+use Rattle.gb_run.specs.Grouping.{HasRows, answer_parts, firsts_in}
 use Rattle.gb_run.proofs.CauseLemmas.{cause_first}
 use Rattle.gb_run.proofs.PartLemmas.{parts_fault}
 
@@ -56,12 +58,79 @@ module _ (frame : Frame) (aligned : all_have_length (frame_height frame) frame �
   found_high (name ∷ names) keys e =
       onto_high name (find_column frame name) (find_columns frame names) keys (λ c at. found_long (frame_height frame) frame name c aligned at) (λ cs at. found_high names cs at) e
 
-height_same : (frame : Frame) (name : List ℕ) (names : List (List ℕ)) (keys : List ColumnValue) → find_columns frame (name ∷ names) ≡ Ok keys → height_of frame keys ≡ frame_height frame
-height_same [] name names keys e = cc
-height_same (c ∷ cs) name names keys e = refl
+nothing_found : (keys : List ColumnValue) → [] ≡ keys → 0 < length keys → ⊥
+nothing_found [] e some = omega (arith, some)
+nothing_found (key ∷ keys) e some = cc e
 
-pub one_found : (frame : Frame) (name : List ℕ) (key : ColumnValue) → find_column frame name ≡ Some key → find_columns frame (name ∷ []) ≡ Ok (key ∷ [])
-one_found frame name key e = rw e
+height_same : (frame : Frame) (names : List (List ℕ)) (keys : List ColumnValue) → find_columns frame names ≡ Ok keys → 0 < length keys → height_of frame keys ≡ frame_height frame
+height_same frame [] keys e some = let none : [] ≡ keys = cc e in absurd (nothing_found keys none some)
+height_same [] (name ∷ names) keys e some = cc e
+height_same (c ∷ cs) (name ∷ names) keys e some = refl
+
+-- as many keys are found as are named
+onto_some : (name : List ℕ) (found : Option ColumnValue) (rest : Result (List ColumnValue) Fault) (keys : List ColumnValue) → column_onto name found rest ≡ Ok keys → 0 < length keys
+onto_some name None rest keys e = cc
+onto_some name (Some c) (Err f) keys e = cc
+onto_some name (Some c) (Ok cs) keys e = let same : c ∷ cs ≡ keys = cc in subst (λ (ks : List ColumnValue). 0 < length ks) same (omega arith)
+
+pub found_some : (frame : Frame) (names : List (List ℕ)) (keys : List ColumnValue) → find_columns frame names ≡ Ok keys → 0 < length names → 0 < length keys
+found_some frame [] keys e some = absurd (omega (arith, some))
+found_some frame (name ∷ names) keys e some = onto_some name (find_column frame name) (find_columns frame names) keys e
+
+-- keys that are found one after the other
+onto_more : (name : List ℕ) (found : Option ColumnValue) (a b : Result (List ColumnValue) Fault) (front : List ColumnValue) (key : ColumnValue)
+    → ((cs : List ColumnValue) → a ≡ Ok cs → b ≡ Ok (cs ++ key ∷ [])) → column_onto name found a ≡ Ok front → column_onto name found b ≡ Ok (front ++ key ∷ [])
+onto_more name None a b front key more e = cc
+onto_more name (Some c) (Err f) b front key more e = cc
+onto_more name (Some c) (Ok cs) b front key more e =
+    let same : c ∷ cs ≡ front = cc in rw (more cs refl) (ap (λ (ks : List ColumnValue). Ok (ks ++ key ∷ [])) same)
+
+pub found_more : (frame : Frame) (names : List (List ℕ)) (name : List ℕ) (front : List ColumnValue) (key : ColumnValue) → find_columns frame names ≡ Ok front → find_column frame name ≡ Some key
+    → find_columns frame (names ++ name ∷ []) ≡ Ok (front ++ key ∷ [])
+found_more frame [] name front key e at = let none : [] ≡ front = cc in rw (at, ← none) refl
+found_more frame (other ∷ names) name front key e at =
+    onto_more other (find_column frame other) (find_columns frame names) (find_columns frame (names ++ name ∷ [])) front key (λ cs is. found_more frame names name cs key is at) e
+
+onto_missing : (other : List ℕ) (found : Option ColumnValue) (a b : Result (List ColumnValue) Fault) (front : List ColumnValue) (f : Fault)
+    → ((cs : List ColumnValue) → a ≡ Ok cs → b ≡ Err f) → column_onto other found a ≡ Ok front → column_onto other found b ≡ Err f
+onto_missing other None a b front f missing e = cc
+onto_missing other (Some c) (Err g) b front f missing e = cc
+onto_missing other (Some c) (Ok cs) b front f missing e = rw (missing cs refl) refl
+
+-- the first name that is missing is the fault
+found_missing : (frame : Frame) (names : List (List ℕ)) (name : List ℕ) (rest : List (List ℕ)) (front : List ColumnValue) → find_columns frame names ≡ Ok front → find_column frame name ≡ None
+    → find_columns frame (names ++ name ∷ rest) ≡ Err (ColumnNotFound name)
+found_missing frame [] name rest front e at = rw at refl
+found_missing frame (other ∷ names) name rest front e at =
+    onto_missing other (find_column frame other) (find_columns frame names) (find_columns frame (names ++ name ∷ rest)) front (ColumnNotFound name) (λ cs is. found_missing frame names name rest cs is at) e
+
+missing_cause : (found : Option ColumnValue) (name : List ℕ) (known : Option Fault) (r : Result (List ColumnValue) Fault) → (found ≡ None → r ≡ Err (ColumnNotFound name))
+    → IsCause known (if is_none found then Some (ColumnNotFound name) else None) → IsCause known (result_err r)
+missing_cause found name None r missing h = tt
+missing_cause None name (Some f) r missing h = rw (missing refl) h
+missing_cause (Some key) name (Some f) r missing h = cc h
+
+pub keys_missing : (frame : Frame) (names : List (List ℕ)) (name : List ℕ) (rest : List (List ℕ)) (front : List ColumnValue) → find_columns frame names ≡ Ok front
+    → (known : Option Fault) → IsCause known (missing_column frame name) → IsCause known (result_err (find_columns frame (names ++ name ∷ rest)))
+keys_missing frame names name rest front e known h =
+    missing_cause (find_column frame name) name known (find_columns frame (names ++ name ∷ rest)) (λ at. found_missing frame names name rest front e at) h
+
+-- names before one, itself, and those behind it
+pub names_split : {A : Type 0} (f : A → List ℕ) (xs : List A) (i : ℕ) (x : A) → i < length xs → x ≡ get_or xs i x → map f xs ≡ map f (take i xs) ++ f x ∷ map f (drop (i + 1) xs)
+names_split f xs i x lt read =
+    ap (map f) (sym (take-append-drop i xs))
+    ∙ map-append f (take i xs) (drop i xs)
+    ∙ ap (λ rest. map f (take i xs) ++ map f rest) (drop_more xs i x lt)
+    ∙ ap (λ y. map f (take i xs) ++ f y ∷ map f (drop (i + 1) xs)) (sym read)
+
+-- a key that is missing is why there is no grouping
+unfound : (frame : Frame) (r : Result (List ColumnValue) Fault) (aggs : List (List ℕ × Method)) (known : Option Fault) → IsCause known (result_err r) → IsCause known (result_err (grouped_if frame r aggs))
+unfound frame r aggs None h = tt
+unfound frame (Ok keys) aggs (Some f) h = cc
+unfound frame (Err g) aggs (Some f) h = h
+
+pub unfound_keys : (frame : Frame) (names : List (List ℕ)) (aggs : List (List ℕ × Method)) (known : Option Fault) → IsCause known (result_err (find_columns frame names)) → IsCause known (result_err (grouped frame names aggs))
+unfound_keys frame names aggs known h = unfound frame (find_columns frame names) aggs known h
 
 shape_none : (height : ℕ) (keys : List ColumnValue) → AreHigh height keys → shape_fault height keys ≡ None
 shape_none height [] high = refl
@@ -70,119 +139,131 @@ shape_none height (key ∷ keys) high = rw (eq-eqb (length key.slots) height hig
 rows_none : (height : ℕ) → HasRowNumbers height → rows_fault height ≡ None
 rows_none height lt = rw (le-ltb 4294967295 height (omega (arith, lt)))
 
+keyless_none : (keys : List ColumnValue) → 0 < length keys → keyless_fault keys ≡ None
+keyless_none [] some = absurd (omega (arith, some))
+keyless_none (key ∷ keys) some = refl
+
+aligned_high : (height : ℕ) (keys : List ColumnValue) → AreHigh height keys → all_have_length height keys ≡ true
+aligned_high height [] high = refl
+aligned_high height (key ∷ keys) high = long_yes height key keys high.0 ∙ aligned_high height keys high.1
+
+first_high : (height : ℕ) (keys : List ColumnValue) → AreHigh height keys → 0 < length keys → frame_height keys ≡ height
+first_high height [] high some = absurd (omega (arith, some))
+first_high height (key ∷ keys) high some = high.0
+
+-- what a frame of the columns is refused for
+columns_fault : (frame : Frame) (rows : List ℕ) (lists : List (List ℕ)) → length rows ≡ length lists → (keys : List ColumnValue) → 0 < length keys → (aggs : List (List ℕ × Method)) (columns : Frame)
+    → map content columns ≡ answer_parts frame keys aggs rows lists → frame_fault columns ≡ duplicate_of (first_repeated (answer_names keys aggs))
+columns_fault frame rows lists same [] some aggs columns e = absurd (omega (arith, some))
+columns_fault frame rows lists same (key ∷ keys) some aggs columns e = parts_fault frame rows lists same key keys aggs columns e
+
 -- ---- what the grouping comes to
 
-module _ (frame : Frame) (whole : IsFrame frame) (name : List ℕ) (names : List (List ℕ)) (key : ColumnValue) (keys : List ColumnValue)
-    (found : find_columns frame (name ∷ names) ≡ Ok (key ∷ keys)) (aggs : List (List ℕ × Method)) where
-  height : height_of frame (key ∷ keys) ≡ frame_height frame
-  height = height_same frame name names (key ∷ keys) found
+module _ (frame : Frame) (whole : IsFrame frame) (names : List (List ℕ)) (keys : List ColumnValue) (found : find_columns frame names ≡ Ok keys) (some : 0 < length keys) where
+  high_in_frame : AreHigh (frame_height frame) keys
+  high_in_frame = found_high frame whole.aligned names keys found
 
-  pub keys_high : AreHigh (height_of frame (key ∷ keys)) (key ∷ keys)
-  keys_high = subst (λ (n : ℕ). AreHigh n (key ∷ keys)) (sym height) (found_high frame whole.aligned (name ∷ names) (key ∷ keys) found)
+  height : height_of frame keys ≡ frame_height frame
+  height = height_same frame names keys found some
 
-  -- the causes that are left for keys of the frame
-  fault_left : fault frame (key ∷ keys) aggs ≡ option_or (rows_fault (frame_height frame)) (option_or (missing_fault frame aggs) (option_or (unfit_fault frame aggs) (duplicate_of (first_repeated (answer_names (key ∷ keys) aggs)))))
-  unfolding fault
-  fault_left = rw (shape_none (height_of frame (key ∷ keys)) (key ∷ keys) keys_high, height)
+  keys_high : AreHigh (height_of frame keys) keys
+  keys_high = subst (λ (n : ℕ). AreHigh n keys) (sym height) high_in_frame
 
-  abbrev Refuses : Option Fault → Type 0
-  Refuses known = IsCause known (result_err (grouped frame (name ∷ names) aggs))
+  -- the keys are a frame's columns of one length
+  pub keys_height : frame_height keys ≡ frame_height frame
+  keys_height = first_high (frame_height frame) keys high_in_frame some
 
-  pub refused : (known : Option Fault) → IsCause known (fault frame (key ∷ keys) aggs) → Refuses known
-  refused None h = tt
-  refused (Some f) h = ap result_err (faulty frame (name ∷ names) aggs (key ∷ keys) found f h)
+  pub keys_aligned : AreOfOneLength keys
+  keys_aligned = rw keys_height (aligned_high (frame_height frame) keys high_in_frame)
 
-  pub refused_height : (known : Option Fault) → IsCause known (rows_fault (frame_height frame)) → Refuses known
-  refused_height known h = refused known (rw fault_left (cause_first known _ _ h))
+  module _ (aggs : List (List ℕ × Method)) where
+    -- the causes that are left for keys of the frame
+    fault_left : fault frame keys aggs ≡ option_or (rows_fault (frame_height frame)) (option_or (missing_fault frame aggs) (option_or (unfit_fault frame aggs) (duplicate_of (first_repeated (answer_names keys aggs)))))
+    unfolding fault
+    fault_left = rw (keyless_none keys some, shape_none (height_of frame keys) keys keys_high, height)
 
-  module _ (short : HasRowNumbers (frame_height frame)) where
-    pub refused_missing : (known : Option Fault) → IsCause known (missing_fault frame aggs) → Refuses known
-    refused_missing known h = refused known (rw (fault_left, rows_none (frame_height frame) short) (cause_first known _ _ h))
+    abbrev Refuses : Option Fault → Type 0
+    Refuses known = IsCause known (result_err (grouped frame names aggs))
 
-    module _ (there : missing_fault frame aggs ≡ None) where
-      pub refused_unfit : (known : Option Fault) → IsCause known (unfit_fault frame aggs) → Refuses known
-      refused_unfit known h = refused known (rw (fault_left, rows_none (frame_height frame) short, there) (cause_first known _ _ h))
+    refused : (known : Option Fault) → IsCause known (fault frame keys aggs) → Refuses known
+    refused None h = tt
+    refused (Some f) h = ap result_err (faulty frame names aggs keys found f h)
 
-      fault_named : unfit_fault frame aggs ≡ None → fault frame (key ∷ keys) aggs ≡ duplicate_of (first_repeated (answer_names (key ∷ keys) aggs))
-      fault_named fit = rw (fault_left, rows_none (frame_height frame) short, there, fit)
+    pub refused_height : (known : Option Fault) → IsCause known (rows_fault (frame_height frame)) → Refuses known
+    refused_height known h = refused known (rw fault_left (cause_first known _ _ h))
 
-      -- the columns over the groups of the keys
-      module _ (fit : unfit_fault frame aggs ≡ None) (rows : List ℕ) (lists : List (List ℕ))
-          (are : AreGroups (agree_by (map (λ key. key.slots) (key ∷ keys))) (height_of frame (key ∷ keys)) rows lists)
-          (columns : Frame) (columns_are : map content columns ≡ answer_parts frame (key ∷ keys) aggs rows lists) where
-        -- what the columns are refused for is the fault of the grouping
-        fault_of_columns : fault frame (key ∷ keys) aggs ≡ frame_fault columns
-        fault_of_columns = fault_named fit ∙ sym (parts_fault frame rows lists (as_many _ (height_of frame (key ∷ keys)) rows lists are) key keys aggs columns columns_are)
+    module _ (short : HasRowNumbers (frame_height frame)) where
+      pub refused_missing : (known : Option Fault) → IsCause known (missing_fault frame aggs) → Refuses known
+      refused_missing known h = refused known (rw (fault_left, rows_none (frame_height frame) short) (cause_first known _ _ h))
 
-        pub refused_frame : (known : Option Fault) → IsCause known (frame_fault columns) → Refuses known
-        refused_frame known h = refused known (rw fault_of_columns h)
+      module _ (there : missing_fault frame aggs ≡ None) where
+        pub refused_unfit : (known : Option Fault) → IsCause known (unfit_fault frame aggs) → Refuses known
+        refused_unfit known h = refused known (rw (fault_left, rows_none (frame_height frame) short, there) (cause_first known _ _ h))
 
-        rows_are : firsts (agree_of frame (key ∷ keys)) (kept_rows frame (key ∷ keys)) ≡ rows
-        rows_are =
-            ap (λ (a : ℕ → ℕ → Bool). firsts a (kept_rows frame (key ∷ keys))) (agree_high frame (key ∷ keys) keys_high)
-            ∙ sym (are.first_rows ∙ groups_firsts (agree_by (map (λ key. key.slots) (key ∷ keys))) (kept_rows frame (key ∷ keys)))
+        fault_named : unfit_fault frame aggs ≡ None → fault frame keys aggs ≡ duplicate_of (first_repeated (answer_names keys aggs))
+        fault_named fit = rw (fault_left, rows_none (frame_height frame) short, there, fit)
 
-        lists_are : map (class (agree_by (map (λ key. key.slots) (key ∷ keys))) (kept_rows frame (key ∷ keys))) rows ≡ lists
-        lists_are =
-            let agree = agree_by (map (λ key. key.slots) (key ∷ keys)) in
-            let below = kept_rows frame (key ∷ keys) in
-            ap (map (class agree below)) (are.first_rows ∙ groups_firsts agree below) ∙ sym (are.row_lists ∙ groups_lists agree below)
+        -- the columns over the groups of the keys
+        module _ (fit : unfit_fault frame aggs ≡ None) (rows : List ℕ) (lists : List (List ℕ)) (are : AreGroups (agree_by (slots_of keys)) (height_of frame keys) rows lists)
+            (columns : Frame) (columns_are : map content columns ≡ answer_parts frame keys aggs rows lists) where
+          -- what the columns are refused for is the fault of the grouping
+          fault_of_columns : fault frame keys aggs ≡ frame_fault columns
+          fault_of_columns = fault_named fit ∙ sym (columns_fault frame rows lists (as_many _ (height_of frame keys) rows lists are) keys some aggs columns columns_are)
 
-        -- the columns are those of the answer
-        pub grouped_columns : frame_fault columns ≡ None → grouped frame (name ∷ names) aggs ≡ Ok (map content columns)
-        grouped_columns none =
-            answered frame (name ∷ names) aggs (key ∷ keys) found (fault_of_columns ∙ none)
-            ∙ ap (λ cs. Ok cs) (answer_high frame (key ∷ keys) keys_high aggs (firsts (agree_of frame (key ∷ keys)) (kept_rows frame (key ∷ keys)))
-            ∙ ap (λ rows. answer_parts frame (key ∷ keys) aggs rows (map (class (agree_by (map (λ key. key.slots) (key ∷ keys))) (kept_rows frame (key ∷ keys))) rows)) rows_are
-            ∙ ap (λ lists. answer_parts frame (key ∷ keys) aggs rows lists) lists_are
-            ∙ sym columns_are)
+          refused_frame : (known : Option Fault) → IsCause known (frame_fault columns) → Refuses known
+          refused_frame known h = refused known (rw fault_of_columns h)
 
--- ---- a key whose rows have hashes, or have none
+          rows_are : firsts (agree_of frame keys) (kept_rows frame keys) ≡ rows
+          rows_are =
+              ap (λ (a : ℕ → ℕ → Bool). firsts a (kept_rows frame keys)) (agree_high frame keys keys_high)
+              ∙ sym (are.first_rows ∙ groups_firsts (agree_by (slots_of keys)) (kept_rows frame keys))
 
--- a key that is missing is why there is no grouping
-found_or : (name : List ℕ) (found : Option ColumnValue) (more : Result (List ColumnValue) Fault) (frame : Frame) (aggs : List (List ℕ × Method)) (known : Option Fault)
-    → IsCause known (if is_none found then Some (ColumnNotFound name) else None) → IsCause known (hashed_fault found (result_err (grouped_if frame (column_onto name found more) aggs)))
-found_or name found more frame aggs None h = tt
-found_or name None more frame aggs (Some f) h = h
-found_or name (Some key) more frame aggs (Some f) h = cc
+          lists_are : map (class (agree_by (slots_of keys)) (kept_rows frame keys)) rows ≡ lists
+          lists_are =
+              let agree = agree_by (slots_of keys) in
+              let below = kept_rows frame keys in
+              ap (map (class agree below)) (are.first_rows ∙ groups_firsts agree below) ∙ sym (are.row_lists ∙ groups_lists agree below)
 
-pub key_missing : (frame : Frame) (name : List ℕ) (aggs : List (List ℕ × Method)) (known : Option Fault) → IsCause known (missing_column frame name)
-    → IsCause known (hashed_fault (find_column frame name) (result_err (grouped frame (name ∷ []) aggs)))
-key_missing frame name aggs known h = found_or name (find_column frame name) (find_columns frame []) frame aggs known h
+          -- the columns are those of the answer
+          grouped_columns : frame_fault columns ≡ None → grouped frame names aggs ≡ Ok (map content columns)
+          grouped_columns none =
+              answered frame names aggs keys found (fault_of_columns ∙ none)
+              ∙ ap (λ cs. Ok cs) (answer_high frame keys keys_high aggs (firsts (agree_of frame keys) (kept_rows frame keys))
+              ∙ ap (λ rows. answer_parts frame keys aggs rows (map (class (agree_by (slots_of keys)) (kept_rows frame keys)) rows)) rows_are
+              ∙ ap (λ lists. answer_parts frame keys aggs rows lists) lists_are
+              ∙ sym columns_are)
 
--- why a key that has hashes is not grouped is the rest
-pub behind_key : (key : ColumnValue) (known rest : Option Fault) → key_fault key ≡ None → IsCause known rest → IsCause known (hashed_fault (Some key) rest)
-behind_key key known rest none h = rw none h
+  -- ---- the groups of the keys
 
--- ---- the groups of one key of the frame
+  module _ (g : Grouping) (are : g.pairs ≡ groups (agree_by (slots_of keys)) (rows_below (frame_height keys))) where
+    pub keys_few : HasRowNumbers (frame_height frame) → HasRowNumbers (length g.pairs)
+    keys_few short = omega (arith, ap (λ (pairs : List (ℕ × List ℕ)). length pairs) are, groups_few (agree_by (slots_of keys)) (frame_height keys), keys_height, short)
 
-module _ (frame : Frame) (whole : IsFrame frame) (name : List ℕ) (key : ColumnValue) (there : find_column frame name ≡ Some key) where
-  pub key_long : length key.slots ≡ frame_height frame
-  key_long = found_long (frame_height frame) frame name key whole.aligned there
-
-  module _ (g : Grouping) (are : g.pairs ≡ groups (same_slot key.slots) (rows_below (length key.slots))) where
-    pub key_few : HasRowNumbers (frame_height frame) → HasRowNumbers (length g.pairs)
-    key_few short = omega (arith, ap (λ (pairs : List (ℕ × List ℕ)). length pairs) are, groups_few (same_slot key.slots) (length key.slots), key_long, short)
-
-    key_grouped : AreGroups (agree_by (key.slots ∷ [])) (height_of frame (key ∷ [])) (firsts_in g) (lists_in g)
-    key_grouped =
-        let high : length key.slots ≡ height_of frame (key ∷ []) = key_long ∙ sym (height_same frame name [] (key ∷ []) (one_found frame name key there)) in
-        let here : g.pairs ≡ groups (agree_by (key.slots ∷ [])) (rows_below (height_of frame (key ∷ []))) =
-        are ∙ ap (λ (a : ℕ → ℕ → Bool). groups a (rows_below (length key.slots))) (sym (agree_one key.slots)) ∙ ap (λ n. groups (agree_by (key.slots ∷ [])) (rows_below n)) high in
+    keys_grouped : AreGroups (agree_by (slots_of keys)) (height_of frame keys) (firsts_in g) (lists_in g)
+    keys_grouped =
+        let here : g.pairs ≡ groups (agree_by (slots_of keys)) (rows_below (height_of frame keys)) =
+        are ∙ ap (λ n. groups (agree_by (slots_of keys)) (rows_below n)) (keys_height ∙ sym height) in
         record { first_rows = ap (map first_of) here; row_lists = ap (map rows_of_pair) here }
 
-    module _ (formed : IsWellFormed (length key.slots) g.pairs) where
-      pub key_firsts : All (λ row. row < length key.slots) (firsts_in g)
-      key_firsts = All-map (λ row. row < length key.slots) first_of g.pairs (λ k d lt. (formed.fit k d lt).first)
+    module _ (formed : IsWellFormed (frame_height keys) g.pairs) where
+      first_rows_below : All (λ row. row < frame_height frame) (firsts_in g)
+      first_rows_below = rw (← keys_height) (All-map (λ row. row < frame_height keys) first_of g.pairs (λ k d lt. (formed.fit k d lt).first))
 
-      pub key_lists : All (AreMembers (frame_height frame)) (lists_in g)
-      key_lists = rw (← key_long) (All-map (AreMembers (length key.slots)) rows_of_pair g.pairs (λ k d lt. (formed.fit k d lt).members))
+      pub keys_firsts : All (HasRows (firsts_in g)) keys
+      keys_firsts = All-from_recursion (HasRows (firsts_in g)) keys (has_rows (frame_height frame) (firsts_in g) first_rows_below keys high_in_frame)
+        where
+          has_rows : (n : ℕ) (rows : List ℕ) → All (λ row. row < n) rows → (keys : List ColumnValue) → AreHigh n keys → AllByRecursion (HasRows rows) keys
+          has_rows n rows below [] high = tt
+          has_rows n rows below (key ∷ keys) high = (rw high.0 below, has_rows n rows below keys high.1)
+
+      pub keys_lists : All (AreMembers (frame_height frame)) (lists_in g)
+      keys_lists = rw (← keys_height) (All-map (AreMembers (frame_height keys)) rows_of_pair g.pairs (λ k d lt. (formed.fit k d lt).members))
 
     -- the columns over them are the answer, or are refused as it is
     module _ (aggs : List (List ℕ × Method)) (short : HasRowNumbers (frame_height frame)) (held : missing_fault frame aggs ≡ None) (fit : unfit_fault frame aggs ≡ None)
-        (columns : Frame) (columns_are : map content columns ≡ answer_parts frame (key ∷ []) aggs (firsts_in g) (lists_in g)) where
-      pub key_answer : frame_fault columns ≡ None → grouped frame (name ∷ []) aggs ≡ Ok (map content columns)
-      key_answer = grouped_columns frame whole name [] key [] (one_found frame name key there) aggs short held fit (firsts_in g) (lists_in g) key_grouped columns columns_are
+        (columns : Frame) (columns_are : map content columns ≡ answer_parts frame keys aggs (firsts_in g) (lists_in g)) where
+      pub keys_answer : frame_fault columns ≡ None → grouped frame names aggs ≡ Ok (map content columns)
+      keys_answer = grouped_columns aggs short held fit (firsts_in g) (lists_in g) keys_grouped columns columns_are
 
-      pub key_refused : (known : Option Fault) → IsCause known (frame_fault columns) → IsCause known (result_err (grouped frame (name ∷ []) aggs))
-      key_refused = refused_frame frame whole name [] key [] (one_found frame name key there) aggs short held fit (firsts_in g) (lists_in g) key_grouped columns columns_are
+      pub keys_refused : (known : Option Fault) → IsCause known (frame_fault columns) → IsCause known (result_err (grouped frame names aggs))
+      keys_refused = refused_frame aggs short held fit (firsts_in g) (lists_in g) keys_grouped columns columns_are

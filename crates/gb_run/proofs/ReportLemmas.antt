@@ -1,8 +1,8 @@
 -- What a request over a table comes to, by what its steps give.
-use Rattle.std.proofs.Common.{◌≡◌, ℕ, Bool, true, false, List, [], ◌∷◌, ◌∙◌, Option, Some, None, Result, Ok, Err, cond, length, map, get_or, refl, sym, ap, arith}
+use Rattle.std.proofs.Common.{◌≡◌, ◌≢◌, ℕ, ◌<◌, Bool, true, false, List, [], ◌∷◌, ◌∙◌, Option, Some, None, Result, Ok, Err, cond, length, map, refl, sym, ap, arith}
 use Rattle.std.specs.Prelude.{option_map, option_and_then}
 use Rattle.std.specs.Result.{result_err}
-use Rattle.gb_defs.specs.Column.{Content, Frame, IsFrame, find_column, rechunked}
+use Rattle.gb_defs.specs.Column.{Content, Frame, IsFrame, rechunked}
 use Rattle.gb_defs.specs.Fault.{Fault}
 use Rattle.gb_defs.specs.Fold.{Method}
 use Rattle.gb_defs.specs.Outcome.{BadGroup, BadTable, Outcome, Report, grouped, outcome, outcome_of_table, written}
@@ -11,48 +11,39 @@ use Rattle.gb_defs.specs.Table.{TableFault, table}
 use Rattle.gb_defs.specs.Text.{frame_text}
 use Rattle.gb_base.specs.PolarsError.{Explains, IsCause, cause_of}
 use Rattle.gb_base.specs.declared.error.PolarsError.{PolarsError}
-use Rattle.gb_run.specs.declared.status.TableError.{TableError}
-use Rattle.gb_run.specs.declared.status.TableError.TheVariants.{Fault as Faulty, NoMemory}
-use Rattle.gb_run.specs.Request.{HasOneKey}
-use Rattle.gb_run.specs.Run.{IsRefusedReport}
-use Rattle.gb_run.specs.Stream.{HasReadAll, IsRefusedInput, IsRefusedText}
-use Rattle.gb_run.specs.Status.{fault_value, IsStatusOf, IsTold, IsToldOf, of_table}
-use Rattle.gb_run.specs.declared.status.Status.{Status}
-use Rattle.gb_run.specs.declared.status.Status.TheVariants as status
-use Rattle.gb_run.specs.Refusal.{IsRefusedTable}
-use Rattle.gb_run.specs.Asked.{asked_names, asked_table, kept}
-use Rattle.gb_run.specs.Grouping.{hashed_fault}
-use Rattle.gb_run.specs.Table.{map_ok}
-use Rattle.gb_run.proofs.AskedLemmas.{grouped_asked}
-use Rattle.gb_run.proofs.ChunkLemmas.{grouped_rechunked}
-use Rattle.gb_run.proofs.FlatLemmas.{table_hashed}
-use Rattle.gb_run.proofs.ReadingLemmas.{table_is_frame}
+use Rattle.gb_text.specs.declared.status.TableError.{TableError}
+use Rattle.gb_text.specs.declared.status.TableError.TheVariants.{Fault as Faulty, NoMemory}
+use Rattle.gb_run.specs.Request.{HasKeys, asked_names}
+use Rattle.gb_run.specs.Run.{IsRefusedReport, IsRefusedText}
+use Rattle.gb_text.specs.Stream.{HasReadAll, IsRefusedInput}
+use Rattle.gb_text.specs.Status.{fault_value, IsStatusOf, IsTold, IsToldOf, of_table}
+use Rattle.gb_text.specs.declared.status.Status.{Status}
+use Rattle.gb_text.specs.declared.status.Status.TheVariants as status
+use Rattle.gb_text.specs.Refusal.{IsRefusedTable}
+use Rattle.gb_text.specs.Asked.{asked_table, kept}
+use Rattle.gb_text.specs.Table.{map_ok}
+use Rattle.gb_run.proofs.CutLemmas.{grouped_asked}
+use Rattle.gb_text.proofs.ChunkLemmas.{grouped_rechunked}
+use Rattle.gb_text.proofs.ReadingLemmas.{table_is_frame}
 
--- the names of one key
-pub one_name : {A : Type 0} (f : A → List ℕ) (xs : List A) (d : A) → length xs ≡ 1 → map f xs ≡ f (get_or xs 0 d) ∷ []
-one_name f [] d e = cc
-one_name f (x ∷ []) d e = refl
-one_name f (x ∷ y ∷ xs) d e = absurd (omega (arith, e))
+-- words ask for a key
+asked_some : (names : List (List ℕ)) (aggs : List (List ℕ × Method)) (options : ToolOptions) (q : Request) → option_map (λ keys. Group keys aggs options) (asked_keys names) ≡ Some q → HasKeys q
+asked_some [] aggs options q e = cc
+asked_some (name ∷ names) aggs options (Group keys others its_options) e =
+    let same : keys ≡ name ∷ names = cc in omega (arith, ap (λ (xs : List (List ℕ)). length xs) same)
 
--- words ask for one key
-asked_one : (names : List (List ℕ)) (aggs : List (List ℕ × Method)) (options : ToolOptions) (q : Request) → option_map (λ keys. Group keys aggs options) (asked_keys names) ≡ Some q → HasOneKey q
-asked_one [] aggs options q e = cc
-asked_one (name ∷ []) aggs options (Group keys others its_options) e =
-    let same : keys ≡ name ∷ [] = cc in ap (λ (xs : List (List ℕ)). length xs) same
-asked_one (name ∷ other ∷ names) aggs options q e = cc
+given_some : (given : Option Given) (q : Request) → option_and_then group_of given ≡ Some q → HasKeys q
+given_some None q e = cc
+given_some (Some g) q e = asked_some g.by g.aggs _ q e
 
-given_one : (given : Option Given) (q : Request) → option_and_then group_of given ≡ Some q → HasOneKey q
-given_one None q e = cc
-given_one (Some g) q e = asked_one g.by g.aggs _ q e
-
-if_asked : (b : Bool) (given : Option Given) (q : Request) → cond b (option_and_then group_of given) None ≡ Some q → HasOneKey q
-if_asked true given q e = given_one given q e
+if_asked : (b : Bool) (given : Option Given) (q : Request) → cond b (option_and_then group_of given) None ≡ Some q → HasKeys q
+if_asked true given q e = given_some given q e
 if_asked false given q e = cc
 
-pub words_one : (words : List (List ℕ)) (q : Request) → request words ≡ Some q → HasOneKey q
+pub words_some : (words : List (List ℕ)) (q : Request) → request words ≡ Some q → HasKeys q
 unfolding request
-words_one [] q e = cc
-words_one (command ∷ options) q e = if_asked _ (given_from options nothing) q e
+words_some [] q e = cc
+words_some (command ∷ options) q e = if_asked _ (given_from options nothing) q e
 
 module _ (by : List (List ℕ)) (aggs : List (List ℕ × Method)) (options : ToolOptions) (bytes : List ℕ) where
   pub bad_table : (e : TableError) → IsRefusedTable e (table bytes options.null_word) → IsRefusedReport (of_table e) (outcome (Group by aggs options) bytes)
@@ -70,24 +61,28 @@ module _ (by : List (List ℕ)) (aggs : List (List ℕ × Method)) (options : To
   refused_cause (Some f) (Err g) s h t = let same : f ≡ g = cc in told_report f g s same t
 
 -- the table is grouped by the columns that are asked for as it is whole
-as_whole : (by : List ℕ) (aggs : List (List ℕ × Method)) (options : ToolOptions) (r : Result Frame TableFault) (frame : Frame) → ((whole : Frame) → r ≡ Ok whole → IsFrame whole)
-    → map_ok (kept (asked_names by aggs)) r ≡ Ok (map rechunked frame) → outcome_of_table (by ∷ []) aggs options.null_word r ≡ written options.null_word (grouped frame (by ∷ []) aggs)
-as_whole by aggs options (Err fault) frame whole e = cc
-as_whole by aggs options (Ok all) frame whole e =
+as_whole : (by : List (List ℕ)) (aggs : List (List ℕ × Method)) (options : ToolOptions) (r : Result Frame TableFault) (frame : Frame) → by ≢ [] → ((whole : Frame) → r ≡ Ok whole → IsFrame whole)
+    → map_ok (kept (asked_names by aggs)) r ≡ Ok (map rechunked frame) → outcome_of_table by aggs options.null_word r ≡ written options.null_word (grouped frame by aggs)
+as_whole by aggs options (Err fault) frame some whole e = cc
+as_whole by aggs options (Ok all) frame some whole e =
     let same : kept (asked_names by aggs) all ≡ map rechunked frame = cc in
-    ap (written options.null_word) (sym (grouped_asked all by aggs (whole all refl)) ∙ ap (λ f. grouped f (by ∷ []) aggs) same ∙ grouped_rechunked frame (by ∷ []) aggs)
+    ap (written options.null_word) (sym (grouped_asked all by aggs (whole all refl) some) ∙ ap (λ f. grouped f by aggs) same ∙ grouped_rechunked frame by aggs)
 
-module _ (by : List ℕ) (aggs : List (List ℕ × Method)) (options : ToolOptions) (bytes : List ℕ) (frame : Frame) (read : asked_table (asked_names by aggs) bytes options.null_word ≡ Ok (map rechunked frame)) where
-  read_outcome : outcome (Group (by ∷ []) aggs options) bytes ≡ written options.null_word (grouped frame (by ∷ []) aggs)
+-- names of which there are some
+pub some_names : (by : List (List ℕ)) → 0 < length by → by ≢ []
+some_names [] some e = absurd (omega (arith, some))
+some_names (name ∷ names) some e = cc
+
+module _ (by : List (List ℕ)) (aggs : List (List ℕ × Method)) (options : ToolOptions) (bytes : List ℕ) (frame : Frame) (some : 0 < length by)
+    (read : asked_table (asked_names by aggs) bytes options.null_word ≡ Ok (map rechunked frame)) where
+  read_outcome : outcome (Group by aggs options) bytes ≡ written options.null_word (grouped frame by aggs)
   unfolding outcome
-  read_outcome = as_whole by aggs options (table bytes options.null_word) frame (table_is_frame options.null_word bytes) read
+  read_outcome = as_whole by aggs options (table bytes options.null_word) frame (some_names by some) (table_is_frame options.null_word bytes) read
 
-  pub bad_group : (e : PolarsError) (s : Status) → Explains e (hashed_fault (find_column frame by) (result_err (grouped frame (by ∷ []) aggs))) → IsStatusOf e s → IsRefusedReport s (outcome (Group (by ∷ []) aggs options) bytes)
-  bad_group e s h t =
-      let hashed = table_hashed (asked_names by aggs) bytes options.null_word frame by (result_err (grouped frame (by ∷ []) aggs)) read in
-      rw read_outcome (refused_cause (by ∷ []) aggs options bytes (cause_of e) (grouped frame (by ∷ []) aggs) s (rw hashed at h) t)
+  pub bad_group : (e : PolarsError) (s : Status) → Explains e (result_err (grouped frame by aggs)) → IsStatusOf e s → IsRefusedReport s (outcome (Group by aggs options) bytes)
+  bad_group e s h t = rw read_outcome (refused_cause by aggs options bytes (cause_of e) (grouped frame by aggs) s h t)
 
-  pub good_report : (columns : List Content) (text : List ℕ) → grouped frame (by ∷ []) aggs ≡ Ok columns → text ≡ frame_text columns options.null_word → outcome (Group (by ∷ []) aggs options) bytes ≡ Report text
+  pub good_report : (columns : List Content) (text : List ℕ) → grouped frame by aggs ≡ Ok columns → text ≡ frame_text columns options.null_word → outcome (Group by aggs options) bytes ≡ Report text
   good_report columns text is printed = read_outcome ∙ ap (written options.null_word) is ∙ ap (λ t. Report t) (sym printed)
 
 -- ---- what was read of a source

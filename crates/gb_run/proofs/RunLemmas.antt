@@ -7,13 +7,13 @@ use Rattle.gb_base.specs.PlSmallStr.{name_of}
 use Rattle.gb_base.specs.declared.small_str.PlSmallStr.{PlSmallStr}
 use Rattle.gb_base.specs.declared.error.PolarsError.{PolarsError}
 use Rattle.gb_base.specs.declared.error.PolarsError.TheVariants.{ColumnNotFound, ComputeError}
-use Rattle.gb_run.specs.declared.status.Status.{Status}
-use Rattle.gb_run.specs.declared.status.Status.TheVariants.{Done, Usage, Table, Group, ReadFault, WriteFault, TooLong, NoMemory}
-use Rattle.gb_run.specs.Run.{Comes, HasCause, IsOneOf, Run, Task}
+use Rattle.gb_text.specs.declared.status.Status.{Status}
+use Rattle.gb_text.specs.declared.status.Status.TheVariants.{Done, Usage, Table, Group, ReadFault, WriteFault, TooLong, NoMemory}
+use Rattle.gb_run.specs.Run.{Comes, HasCause, IsOneOf, IsRefusedText, Run, Task}
 use Rattle.gb_defs.specs.Outcome.{outcome}
-use Rattle.gb_run.specs.Status.{fault_value}
-use Rattle.gb_run.specs.Stream.{HasReadAll, IsRefusedText}
-use Rattle.gb_run.proofs.RecordLemmas.{some_of}
+use Rattle.gb_text.specs.Status.{fault_value}
+use Rattle.gb_text.specs.Stream.{HasReadAll}
+use Rattle.gb_text.proofs.RecordLemmas.{some_of}
 
 module _ (task : Task) (q : asked.Request) (bytes : List ℕ) (e : task.request ≡ Some q) (t : task.input ≡ Some bytes) (long : task.limit < length bytes) where
   -- an outcome comes of an input within the limit

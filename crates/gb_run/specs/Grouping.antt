@@ -1,13 +1,13 @@
 -- The columns of an answer over the groups that were found.
-use Rattle.std.specs.Prelude.{ℕ, List, ◌++◌, map, Option, None, Some}
-use Rattle.std.specs.Option.{option_or}
+use Rattle.std.specs.Prelude.{ℕ, ◌<◌, All, List, ◌++◌, length, map, Option, None}
+use Rattle.std.specs.Result.{result_err}
 use Rattle.gb_defs.specs.Column.{ColumnValue, Content, Frame, content, find_column, taken}
 use Rattle.gb_defs.specs.Fold.{Method}
 use Rattle.gb_defs.specs.Answer.{aggregated}
 use Rattle.gb_defs.specs.Fault.{Fault, unfit_at, unfit_or}
 use Rattle.gb_defs.specs.Groups.{Grouping, first_of}
+use Rattle.gb_defs.specs.Outcome.{grouped}
 use Rattle.gb_base.specs.PlSmallStr.{name_of}
-use Rattle.gb_paths.specs.Keys.{key_fault}
 use Rattle.gb_run.specs.declared.words.Agg.{Agg}
 use Rattle.gb_run.specs.Request.{method_of}
 
@@ -27,7 +27,10 @@ answer_parts frame keys aggs rows lists = map (λ key. content (taken rows key))
 abbrev pub unfit_cause : Frame → Agg → Option Fault
 unfit_cause frame agg = unfit_or (name_of agg.column) (unfit_at (method_of agg.method) (find_column frame (name_of agg.column))) None
 
--- why a frame is not grouped by the key that is found: its rows have no hash, or else the rest
-abbrev pub hashed_fault : Option ColumnValue → Option Fault → Option Fault
-hashed_fault None rest = rest
-hashed_fault (Some key) rest = option_or (key_fault key) rest
+-- a key has all these rows
+abbrev pub HasRows : List ℕ → ColumnValue → Type 0
+HasRows rows key = All (λ row. row < length key.slots) rows
+
+-- why a frame is not grouped by the columns of these names
+abbrev pub grouping_fault : Frame → List (List ℕ) → List (List ℕ × Method) → Option Fault
+grouping_fault frame by aggs = result_err (grouped frame by aggs)

@@ -1,5 +1,5 @@
 -- What contracts see of a request.
-use Rattle.std.specs.Prelude.{◌≡◌, ℕ, List, [], ◌∷◌, length, map}
+use Rattle.std.specs.Prelude.{ℕ, ◌<◌, List, ◌++◌, length, map}
 use Rattle.gb_defs.specs.Fold as fold
 use Rattle.gb_defs.specs.Request as asked
 use Rattle.gb_base.specs.PlSmallStr.{name_of}
@@ -27,10 +27,17 @@ options_of o = record { workers = o.workers; partitions = o.partitions; piece = 
 abbrev pub request_of : Request → asked.Request
 request_of (Group by aggs options) = asked.Group (map name_of by.items) (aggs_of aggs.items) (options_of options)
 
--- a grouping by one key
-abbrev pub group_by : PlSmallStr → List Agg → ToolOptions → asked.Request
-group_by by aggs options = asked.Group (name_of by ∷ []) (aggs_of aggs) (options_of options)
+abbrev pub names_of : List PlSmallStr → List (List ℕ)
+names_of names = map name_of names
 
--- one key is asked
-abbrev pub HasOneKey : asked.Request → Type 0
-HasOneKey (asked.Group by aggs options) = length by ≡ 1
+-- a grouping by some keys
+abbrev pub group_by : List PlSmallStr → List Agg → ToolOptions → asked.Request
+group_by by aggs options = asked.Group (names_of by) (aggs_of aggs) (options_of options)
+
+-- some key is asked for
+abbrev pub HasKeys : asked.Request → Type 0
+HasKeys (asked.Group by aggs options) = 0 < length by
+
+-- the names of the keys and of the columns that are aggregated
+abbrev pub asked_names : List (List ℕ) → List (List ℕ × fold.Method) → List (List ℕ)
+asked_names by aggs = by ++ map (λ agg. agg.0) aggs

@@ -7,9 +7,11 @@ use Rattle.gb_defs.specs.Outcome.{Outcome, BadTable, BadGroup, Report, outcome}
 use Rattle.gb_defs.specs.Request as asked
 use Rattle.gb_defs.specs.Table as table
 use Rattle.gb_base.specs.Device.{Rose}
-use Rattle.gb_run.specs.Status.{Tells, fault_value}
-use Rattle.gb_run.specs.declared.status.Status.{Status}
-use Rattle.gb_run.specs.declared.status.Status.TheVariants.{Done, Usage, Table, Group, ReadFault, WriteFault, TooLong, NoMemory}
+use Rattle.gb_text.specs.Moved.{Holds, HoldsPart}
+use Rattle.gb_text.specs.Status.{Tells, fault_value}
+use Rattle.gb_text.specs.Stream.{HasReadAll}
+use Rattle.gb_text.specs.declared.status.Status.{Status}
+use Rattle.gb_text.specs.declared.status.Status.TheVariants.{Done, Usage, Table, Group, ReadFault, WriteFault, TooLong, NoMemory}
 
 -- ---- what is asked, and what it comes to
 
@@ -79,47 +81,12 @@ IsRefusedReport (Group e) o = (f : Fault) × Tells e f × (o ≡ BadGroup f)
 IsRefusedReport NoMemory o = Unit {0}
 IsRefusedReport _ o = ⊥
 
--- ---- devices
-
--- at most this many bytes were taken from the front
-abbrev pub HasTaken : ℕ → Option (List ℕ) → Option (List ℕ) → Type 0
-HasTaken most None after = Unit {0}
-HasTaken most (Some before) None = ⊥
-HasTaken most (Some before) (Some after) = length before ≤ length after + most
-
--- where the source tells its bytes, none is left
-abbrev pub IsReadToEnd : Option (List ℕ) → Option (List ℕ) → Type 0
-IsReadToEnd before after = IfSome before (λ _. after ≡ Some [])
-
--- so many bytes were moved from the front of what was left behind the bytes
-pub record HasMoved (count : ℕ) (bytes bytes_after : List ℕ) (before after : Option (List ℕ)) : Type 0 where
-  pub piece : List ℕ
-  pub long : length piece ≡ count
-  pub bytes_is : bytes_after ≡ bytes ++ piece
-  pub left_is : before ≡ option_map (λ rest. piece ++ rest) after
-
--- why no bytes were moved
-abbrev pub IsPieceFault : ℕ → ℕ → Status → Type 0
-IsPieceFault faults faults_after ReadFault = Rose faults faults_after
-IsPieceFault faults faults_after NoMemory = Unit {0}
-IsPieceFault faults faults_after _ = ⊥
-
--- why the input was not read to its end
-abbrev pub IsInputFault : ℕ → ℕ → ℕ → Option (List ℕ) → Status → Type 0
-IsInputFault faults faults_after limit left ReadFault = Rose faults faults_after
-IsInputFault faults faults_after limit left TooLong = IfSome left (λ bytes. limit < length bytes)
-IsInputFault faults faults_after limit left NoMemory = Unit {0}
-IsInputFault faults faults_after limit left _ = ⊥
-
--- what a sink holds is what it held and a part of the text, less than the whole
-pub record HoldsPart (text : List ℕ) (before after : Option (List ℕ)) : Type 0 where
-  pub count : ℕ
-  pub less : count < length text
-  pub part : after ≡ option_map (λ held. held ++ take count text) before
-
--- the text was written behind what the sink held
-abbrev pub Holds : List ℕ → Option (List ℕ) → Option (List ℕ) → Type 0
-Holds text before after = after ≡ option_map (λ held. held ++ text) before
+-- why there is no text, for what bytes come to
+abbrev pub IsRefusedText : (List ℕ → Outcome) → ℕ → ℕ → ℕ → Option (List ℕ) → Option (List ℕ) → Status → Type 0
+IsRefusedText comes faults faults_after limit before after ReadFault = Rose faults faults_after
+IsRefusedText comes faults faults_after limit before after TooLong = IfSome before (λ bytes. limit < length bytes)
+IsRefusedText comes faults faults_after limit before after NoMemory = Unit {0}
+IsRefusedText comes faults faults_after limit before after s = HasReadAll limit before after (λ bytes. IsRefusedReport s (comes bytes))
 
 -- ---- a run
 

@@ -1,100 +1,123 @@
 //! From a frame to the frame of its groups: one row for each class of rows whose keys agree.
 
-ghost use Rattle.std.specs.Prelude.{◌≡◌, ◌<◌, [], ◌∷◌, map, length, All, None, Ok, Some, false, is_none, IfOk, IfErr, OnOk};
+ghost use Rattle.std.specs.Prelude.{◌≡◌, ◌<◌, map, length, All, None, Ok, false, is_none, IfOk, IfErr, OnOk};
 ghost use Rattle.std.specs.Result.{result_err};
-ghost use Rattle.gb_defs.specs.Column.{IsFrame, content, find_column, frame_height};
+ghost use Rattle.gb_defs.specs.Column.{IsFrame, content, find_column, frame_height, taken};
 ghost use Rattle.gb_defs.specs.Fault.{rows_fault, missing_fault, unfit_fault};
 ghost use Rattle.gb_defs.specs.Answer.{aggregated};
-ghost use Rattle.gb_defs.specs.Outcome.{grouped};
+ghost use Rattle.gb_defs.specs.Outcome.{find_columns, grouped};
 ghost use Rattle.gb_base.specs.PolarsError.{Explains};
-ghost use Rattle.gb_defs.specs.Classes.{groups, rows_below, same_slot};
+ghost use Rattle.gb_defs.specs.Classes.{agree_by, groups, rows_below};
 ghost use Rattle.gb_defs.specs.Groups.{AreMembers, HasRowNumbers, IsWellFormed, lists_in};
-ghost use Rattle.gb_base.specs.PlSmallStr.{name_of};
+ghost use Rattle.gb_base.specs.PlSmallStr.{IsNoMemory, name_of};
 ghost use Rattle.gb_groups.specs.GroupsType.{groups_of};
-ghost use Rattle.gb_paths.specs.Keys.{key_fault};
+ghost use Rattle.gb_paths.specs.Tuples.{slots_of};
+ghost use Rattle.gb_rows.specs.Lent.{keys_in};
+ghost use Rattle.gb_rows.specs.Rows.{AreOfOneLength};
 ghost use Rattle.gb_series.specs.Series.{value_of};
-ghost use Rattle.gb_run.specs.Grouping.{aggregates_over, answer_parts, firsts_in, hashed_fault, unfit_cause};
-ghost use Rattle.gb_run.specs.Request.{agg_of, aggs_of};
-ghost use Rattle.gb_run.specs.Text.{contents_of};
+ghost use Rattle.gb_run.specs.Grouping.{HasRows, aggregates_over, answer_parts, firsts_in};
+ghost use Rattle.gb_run.specs.Grouping.{grouping_fault, unfit_cause};
+ghost use Rattle.gb_run.specs.Request.{agg_of, aggs_of, names_of};
+ghost use Rattle.gb_text.specs.Text.{contents_of};
 
 use crate::folds::by_workers::aggregate_all;
 use crate::words::Agg;
 use gb_base::device::Gate;
 use gb_base::error::{PolarsError, PolarsResult};
+use gb_base::nullable_idx::IdxSize;
 use gb_base::pool::Pool;
 use gb_base::small_str::PlSmallStr;
 use gb_cols::series_trait::SeriesTrait;
 use gb_groups::groups_type::GroupsType;
-use gb_paths::into_groups::{check_key, group_tuples_gated};
+use gb_paths::by_keys::group_by_keys;
 use gb_series::frame::DataFrame;
 use gb_series::series::Series;
 use std::alloc::Global;
 use std::thread::Threads;
 
-/// The key at the first row of each group, and the aggregates over its rows. A key without a hash is
-/// refused before all else, but that it must be there.
+/// The keys at the first row of each group, and the aggregates over its rows.
 pub fn group_frame<R: Threads + Sync, G: Gate + Sync>(
     rt: &R,
     alloc: Global,
     frame: &DataFrame,
-    by: &PlSmallStr,
+    by: &[PlSmallStr],
     aggs: &[Agg],
     pool: &Pool,
     gate: &G,
 ) -> PolarsResult<DataFrame>
+    requires some { 0 < length by.now }
     ensures ok { IfOk result (λ answer.
-        grouped frame.now (name_of by.now ∷ []) (aggs_of aggs.now) ≡ Ok (map content answer)) }
-    ensures err { let name = name_of by.now in
-        let rest = result_err (grouped frame.now (name ∷ []) (aggs_of aggs.now)) in
-        IfErr result (λ e. Explains e (hashed_fault (find_column frame.now name) rest)) }
+        grouped frame.now (names_of by.now) (aggs_of aggs.now) ≡ Ok (map content answer)) }
+    ensures err { IfErr result (λ e.
+        Explains e (grouping_fault frame.now (names_of by.now) (aggs_of aggs.now))) }
 {
-    let key = frame.column(by.as_str())?;
-    group_by_key(rt, alloc, frame, by, key, aggs, pool, gate)
+    let keys = find_keys(alloc, frame, by)?;
+    group_by_found(rt, alloc, frame, by, &keys, aggs, pool, gate)
 }
 
-// The same, by the key of that name.
-fn group_by_key<R: Threads + Sync, G: Gate + Sync>(
+// The columns of these names, or the first name that is missing.
+fn find_keys<'a>(
+    alloc: Global,
+    frame: &'a DataFrame,
+    by: &[PlSmallStr],
+) -> PolarsResult<Vec<&'a Series>>
+    ensures ok { IfOk result (λ keys.
+        find_columns frame.now (names_of by.now) ≡ Ok (keys_in keys.items)) }
+    ensures err { IfErr result (λ e.
+        Explains e (result_err (find_columns frame.now (names_of by.now)))) }
+{
+    let mut keys = Vec::with_capacity(alloc, by.len())?;
+    for name in by {
+        keys.push(frame.column(name.as_str())?)?;
+    }
+    Ok(keys)
+}
+
+// The same, by the keys of those names.
+fn group_by_found<R: Threads + Sync, G: Gate + Sync>(
     rt: &R,
     alloc: Global,
     frame: &DataFrame,
-    by: &PlSmallStr,
-    key: &Series,
+    by: &[PlSmallStr],
+    keys: &[&Series],
     aggs: &[Agg],
     pool: &Pool,
     gate: &G,
 ) -> PolarsResult<DataFrame>
-    requires { find_column frame.now (name_of by.now) ≡ Some (value_of key.now) }
+    requires some { 0 < length by.now }
+    requires found { find_columns frame.now (names_of by.now) ≡ Ok (keys_in keys.now) }
     ensures ok { IfOk result (λ answer.
-        grouped frame.now (name_of by.now ∷ []) (aggs_of aggs.now) ≡ Ok (map content answer)) }
-    ensures err { let name = name_of by.now in
-        let rest = result_err (grouped frame.now (name ∷ []) (aggs_of aggs.now)) in
-        IfErr result (λ e. Explains e (hashed_fault (Some (value_of key.now)) rest)) }
+        grouped frame.now (names_of by.now) (aggs_of aggs.now) ≡ Ok (map content answer)) }
+    ensures err { IfErr result (λ e.
+        Explains e (grouping_fault frame.now (names_of by.now) (aggs_of aggs.now))) }
 {
-    check_key(key)?;
     check_height(frame.height())?;
     check_columns(frame, aggs)?;
-    let groups = key_groups(rt, key, pool, gate)?;
-    let columns = answer_columns(rt, alloc, frame, key, aggs, groups, pool)?;
+    let groups = key_groups(rt, keys, pool, gate)?;
+    let columns = answer_columns(rt, alloc, frame, keys, aggs, groups, pool)?;
     DataFrame::new(columns)
 }
 
-// The rows that hold one key, in the order of their first rows, by as many workers as there are.
+// The rows that hold one slot in each key, in the order of their first rows, by as many workers as there
+// are.
 fn key_groups<R: Threads + Sync, G: Gate + Sync>(
     rt: &R,
-    key: &Series,
+    keys: &[&Series],
     pool: &Pool,
     gate: &G,
 ) -> PolarsResult<GroupsType>
-    requires few { HasRowNumbers (length (value_of key.now).slots) }
-    ensures ok { IfOk result (λ g. (groups_of g).pairs ≡ groups
-        (same_slot (value_of key.now).slots) (rows_below (length (value_of key.now).slots))) }
+    requires some { 0 < length keys.now }
+    requires aligned { AreOfOneLength (keys_in keys.now) }
+    requires few { HasRowNumbers (frame_height (keys_in keys.now)) }
+    ensures ok { let keys = keys_in keys.now in IfOk result (λ g. (groups_of g).pairs
+        ≡ groups (agree_by (slots_of keys)) (rows_below (frame_height keys))) }
     ensures formed { IfOk result (λ g.
-        IsWellFormed (length (value_of key.now).slots) (groups_of g).pairs) }
-    ensures err { IfErr result (λ e. Explains e (key_fault (value_of key.now))) }
+        IsWellFormed (frame_height (keys_in keys.now)) (groups_of g).pairs) }
+    ensures err { IfErr result IsNoMemory }
 {
     let multithreaded = true;
     let sorted = true;
-    group_tuples_gated(rt, key, multithreaded, sorted, pool, gate)
+    group_by_keys(rt, keys, multithreaded, sorted, pool, gate)
 }
 
 // That so many rows have numbers.
@@ -119,12 +142,12 @@ fn check_columns(frame: &DataFrame, aggs: &[Agg]) -> PolarsResult<()>
     Ok(())
 }
 
-// The columns of the answer. The first rows are moved out of the groups, so the keys come last.
+// The columns of the answer. The first rows are moved out of the groups, so the aggregates are made first.
 fn answer_columns<R: Threads + Sync>(
     rt: &R,
     alloc: Global,
     frame: &DataFrame,
-    key: &Series,
+    keys: &[&Series],
     aggs: &[Agg],
     groups: GroupsType,
     pool: &Pool,
@@ -132,23 +155,37 @@ fn answer_columns<R: Threads + Sync>(
     requires frame { IsFrame frame.now }
     requires short { HasRowNumbers (frame_height frame.now) }
     requires found { missing_fault frame.now (aggs_of aggs.now) ≡ None }
-    requires firsts { All (λ row. row < length (value_of key.now).slots)
-        (firsts_in (groups_of groups)) }
+    requires firsts { All (HasRows (firsts_in (groups_of groups))) (keys_in keys.now) }
     requires rows { All (AreMembers (frame_height frame.now)) (lists_in (groups_of groups)) }
     requires few { HasRowNumbers (length (groups_of groups).pairs) }
     ensures ok { IfOk result (λ columns. contents_of columns.items
-        ≡ answer_parts frame.now (value_of key.now ∷ []) (aggs_of aggs.now)
+        ≡ answer_parts frame.now (keys_in keys.now) (aggs_of aggs.now)
         (firsts_in (groups_of groups)) (lists_in (groups_of groups))) }
     ensures fits { OnOk result (unfit_fault frame.now (aggs_of aggs.now) ≡ None) }
     ensures err { IfErr result (λ e. Explains e (unfit_fault frame.now (aggs_of aggs.now))) }
 {
-    let mut columns = aggregates(rt, alloc, frame, aggs, &groups, pool)?;
+    let mut folded = aggregates(rt, alloc, frame, aggs, &groups, pool)?;
     let firsts = groups.take_group_firsts()?;
-    columns.insert(0, key.take(&firsts)?)?;
+    let mut columns = keys_at(alloc, keys, &firsts)?;
+    columns.append(&mut folded)?;
     Ok(columns)
 }
 
-// The aggregates over the rows of each group, with room for one column more.
+// The keys at some rows.
+fn keys_at(alloc: Global, keys: &[&Series], rows: &[IdxSize]) -> PolarsResult<Vec<Series>>
+    requires { All (HasRows rows.now) (keys_in keys.now) }
+    ensures ok { let taken = map (λ key. content (taken rows.now key)) (keys_in keys.now) in
+        IfOk result (λ columns. contents_of columns.items ≡ taken) }
+    ensures err { IfErr result IsNoMemory }
+{
+    let mut columns = Vec::with_capacity(alloc, keys.len())?;
+    for key in keys {
+        columns.push(key.take(rows)?)?;
+    }
+    Ok(columns)
+}
+
+// The aggregates over the rows of each group.
 fn aggregates<R: Threads + Sync>(
     rt: &R,
     alloc: Global,
@@ -167,7 +204,7 @@ fn aggregates<R: Threads + Sync>(
     ensures fits { OnOk result (unfit_fault frame.now (aggs_of aggs.now) ≡ None) }
     ensures err { IfErr result (λ e. Explains e (unfit_fault frame.now (aggs_of aggs.now))) }
 {
-    let mut columns = Vec::with_capacity(alloc, aggs.len() + 1)?;
+    let mut columns = Vec::with_capacity(alloc, aggs.len())?;
     for agg in aggs {
         columns.push(found_aggregate(rt, alloc, frame, agg, groups, pool)?)?;
     }

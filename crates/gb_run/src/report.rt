@@ -1,22 +1,22 @@
 //! From the table that a source has to the text of the answer.
 
-ghost use Rattle.std.specs.Prelude.{◌≡◌, ◌≢◌, ◌≤◌, ◌+◌, Err, IfErr, IfOk};
+ghost use Rattle.std.specs.Prelude.{◌≡◌, ◌≢◌, ◌<◌, ◌≤◌, ◌+◌, length, Err, IfErr, IfOk};
 ghost use Rattle.gb_defs.specs.Outcome.{Report, outcome};
-ghost use Rattle.gb_base.specs.PlSmallStr.{name_of};
-ghost use Rattle.gb_run.specs.Asked.{asked_names, names_in};
-ghost use Rattle.gb_run.specs.Request.{HasOneKey, aggs_of, group_by, request_of};
-ghost use Rattle.gb_run.specs.Run.{HasTaken};
-ghost use Rattle.gb_run.specs.Stream.{HasReadAll, IsRefusedText};
-ghost use Rattle.gb_run.specs.declared.status.Status.TheVariants as status;
+ghost use Rattle.gb_text.specs.Asked.{names_in};
+ghost use Rattle.gb_run.specs.Request.{HasKeys, aggs_of, asked_names, group_by, names_of, request_of};
+ghost use Rattle.gb_text.specs.Moved.{HasTaken};
+ghost use Rattle.gb_run.specs.Run.{IsRefusedText};
+ghost use Rattle.gb_text.specs.Stream.{HasReadAll};
+ghost use Rattle.gb_text.specs.declared.status.Status.TheVariants as status;
 
 use crate::grouping::group_frame;
-use crate::status::Status;
-use crate::table::blocks::{Reading, read_table};
-use crate::text;
 use crate::words::{Agg, Request, ToolOptions};
 use gb_base::device::{Gate, Source};
 use gb_base::pool::Pool;
 use gb_base::small_str::PlSmallStr;
+use gb_text::status::Status;
+use gb_text::table::blocks::{Reading, read_table};
+use gb_text::text;
 use std::alloc::{AllocError, Global};
 use std::thread::Threads;
 
@@ -35,7 +35,7 @@ fn pool_of(options: &ToolOptions) -> Pool {
 const BLOCK_BYTES: usize = 8_388_608;
 
 /// The text of the answer to the request over the table that the source has left, if it is at most `limit`
-/// bytes. Today a request has one key.
+/// bytes. The request has a key.
 pub fn report<R: Threads + Sync, S: Source, G: Gate + Sync>(
     rt: &R,
     alloc: Global,
@@ -45,7 +45,7 @@ pub fn report<R: Threads + Sync, S: Source, G: Gate + Sync>(
     gate: &G,
 ) -> Result<Vec<u8>, Status>
     requires limit { limit ≤ 4294967295 }
-    requires one_key { HasOneKey (request_of request.now) }
+    requires some { HasKeys (request_of request.now) }
     ensures ok { IfOk result (λ text. HasReadAll limit (S.left source.old) (S.left source.new)
         (λ bytes. outcome (request_of request.now) bytes ≡ Report text.items)) }
     ensures err { IfErr result (IsRefusedText (outcome (request_of request.now))
@@ -57,22 +57,32 @@ pub fn report<R: Threads + Sync, S: Source, G: Gate + Sync>(
 {
     match request {
         Request::Group { by, aggs, options } => {
-            group_report(rt, alloc, &by[0], aggs, options, source, limit, gate)
+            group_report(rt, alloc, by, aggs, options, source, limit, gate)
         }
     }
 }
 
-// The names of the key and of the columns that are aggregated.
+// The names of the keys.
+fn key_names(alloc: Global, by: &[PlSmallStr]) -> Result<Vec<&str>, AllocError>
+    ensures { IfOk result (λ names. names_in names.items ≡ names_of by.now) }
+{
+    let mut names = Vec::with_capacity(alloc, by.len())?;
+    for name in by {
+        names.push(name.as_str())?;
+    }
+    Ok(names)
+}
+
+// The names of the keys and of the columns that are aggregated.
 fn names_asked<'a>(
     alloc: Global,
-    by: &'a PlSmallStr,
+    by: &'a [PlSmallStr],
     aggs: &'a [Agg],
 ) -> Result<Vec<&'a str>, AllocError>
-    ensures { let asked = asked_names (name_of by.now) (aggs_of aggs.now) in
+    ensures { let asked = asked_names (names_of by.now) (aggs_of aggs.now) in
         IfOk result (λ names. names_in names.items ≡ asked) }
 {
-    let mut names = Vec::with_capacity(alloc, aggs.len() + 1)?;
-    names.push(by.as_str())?;
+    let mut names = key_names(alloc, by)?;
     for agg in aggs {
         names.push(agg.column.as_str())?;
     }
@@ -83,7 +93,7 @@ fn names_asked<'a>(
 fn group_report<R: Threads + Sync, S: Source, G: Gate + Sync>(
     rt: &R,
     alloc: Global,
-    by: &PlSmallStr,
+    by: &[PlSmallStr],
     aggs: &[Agg],
     options: &ToolOptions,
     source: &mut S,
@@ -91,6 +101,7 @@ fn group_report<R: Threads + Sync, S: Source, G: Gate + Sync>(
     gate: &G,
 ) -> Result<Vec<u8>, Status>
     requires limit { limit ≤ 4294967295 }
+    requires some { 0 < length by.now }
     ensures ok { IfOk result (λ text. HasReadAll limit (S.left source.old) (S.left source.new)
         (λ bytes. outcome (group_by by.now aggs.now options.now) bytes ≡ Report text.items)) }
     ensures err { IfErr result (IsRefusedText (outcome (group_by by.now aggs.now options.now))

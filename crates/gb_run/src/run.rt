@@ -9,18 +9,20 @@ ghost use Rattle.gb_base.specs.PlSmallStr.{name_of};
 ghost use Rattle.gb_base.specs.declared.small_str.PlSmallStr.{PlSmallStr};
 ghost use Rattle.gb_base.specs.declared.error.PolarsError.{PolarsError};
 ghost use Rattle.gb_base.specs.declared.error.PolarsError.TheVariants.{ColumnNotFound, ComputeError};
-ghost use Rattle.gb_run.specs.Run.{Comes, HasCause, HasTaken, Holds, HoldsPart, IsOneOf};
-ghost use Rattle.gb_run.specs.Run.{IsReadToEnd, IsTable, IsTooLong, OfOutcome, Run, WhereTold, Writes};
+ghost use Rattle.gb_run.specs.Run.{Comes, HasCause, IsOneOf};
+ghost use Rattle.gb_text.specs.Moved.{HasTaken, Holds, HoldsPart};
+ghost use Rattle.gb_run.specs.Run.{IsTable, IsTooLong, OfOutcome, Run, WhereTold, Writes};
+ghost use Rattle.gb_text.specs.Moved.{IsReadToEnd};
 ghost use Rattle.gb_run.specs.Run.{asked_by, has_ended, status_of, task_of};
-ghost use Rattle.gb_run.specs.Status.{IsTold, fault_value};
-ghost use Rattle.gb_run.specs.declared.status.TableFault.{TableFault};
-ghost use Rattle.gb_run.specs.declared.status.Status.TheVariants as status;
+ghost use Rattle.gb_text.specs.Status.{IsTold, fault_value};
+ghost use Rattle.gb_text.specs.declared.status.TableFault.{TableFault};
+ghost use Rattle.gb_text.specs.declared.status.Status.TheVariants as status;
 
 use crate::report::report;
-use crate::status::Status;
-use crate::streams::write_text;
 use crate::words::request_of;
 use gb_base::device::{Gate, Sink, Source};
+use gb_text::status::Status;
+use gb_text::streams::write_text;
 use std::alloc::Global;
 use std::thread::Threads;
 

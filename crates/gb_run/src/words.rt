@@ -295,7 +295,7 @@ fn options_of(numbers: Numbers, null_word: PlSmallStr, explain: bool) -> ToolOpt
     }
 }
 
-// The request of what was given, None where there is not exactly one key.
+// The request of what was given, None where there is no key.
 fn group_of(alloc: Global, given: Given) -> PolarsResult<Option<Request>>
     ensures ok { IfOk result (λ o. option_map made.request_of o
         ≡ asked.group_of (given_of given)) }
@@ -308,7 +308,7 @@ fn group_of(alloc: Global, given: Given) -> PolarsResult<Option<Request>>
         null_word,
         explain,
     } = given;
-    if by.len() != 1 {
+    if by.is_empty() {
         return Ok(None);
     }
     let null_word = match null_word {

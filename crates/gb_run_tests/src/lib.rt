@@ -5,3 +5,5 @@
 mod many_rows;
 #[cfg(test)]
 mod nested_text;
+#[cfg(test)]
+mod several_keys;

@@ -2,7 +2,7 @@
 
 use gb_base::memory::{FreeGate, MemSink, SoundSource};
 use gb_run::run::{Limits, run};
-use gb_run::status::Status;
+use gb_text::status::Status;
 use std::alloc::Global;
 use std::test::Fail;
 use std::thread::Threads;

@@ -9,13 +9,13 @@ use gb_base::error::PolarsResult;
 use gb_base::small_str::PlSmallStr;
 use gb_cols::chunked::StringChunked;
 use gb_cols::series_trait::SeriesTrait;
-use gb_run::status::TableError;
-use gb_run::table::table_of;
-use gb_run::text::text_of;
 use gb_series::frame::DataFrame;
 use gb_series::into_series::IntoSeries;
 use gb_series::nested::list::ListChunked;
 use gb_series::series::Series;
+use gb_text::status::TableError;
+use gb_text::table::table_of;
+use gb_text::text::text_of;
 use std::alloc::Global;
 use std::test::Fail;
 

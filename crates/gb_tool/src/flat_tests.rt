@@ -3,7 +3,7 @@
 
 use crate::tests::{source_of, status_through};
 use gb_base::memory::{FreeGate, MemSink};
-use gb_run::status::{Status, TableFault};
+use gb_text::status::{Status, TableFault};
 use std::alloc::Global;
 use std::test::Fail;
 use std::thread::Threads;

@@ -18,7 +18,7 @@ mod tests;
 use gb_base::memory::FreeGate;
 use gb_base::standard::{StderrSink, StdinSource, StdoutSink};
 use gb_run::run::{Limits, run};
-use gb_run::status::Status;
+use gb_text::status::Status;
 use std::env;
 use std::io::ErrorKind;
 use std::process::ExitCode;

@@ -6,7 +6,7 @@ use gb_base::device::{Failed, Gate, Source};
 use gb_base::error::PolarsError;
 use gb_base::memory::{FreeGate, MemSink, SoundSource};
 use gb_run::run::{Limits, run};
-use gb_run::status::{Status, TableError, TableFault};
+use gb_text::status::{Status, TableError, TableFault};
 use std::alloc::Global;
 use std::test::Fail;
 use std::thread::Threads;

@@ -104,3 +104,15 @@ returns-clause-header_from_the_left c = refl
 pub returns-clause-first_bad_row : goal.returns-clause-first_bad_row
 unfolding outcome grouped_by table records_from next_record strip_bom head_of type_words cell_slot is_utf8 fault answer firsts is_first class fold_picked frame_text int_wrap escaped fields_text is_blank chars encode digits
 returns-clause-first_bad_row c = refl
+
+pub returns-clause-two_keys : goal.returns-clause-two_keys
+unfolding outcome grouped_by table records_from next_record strip_bom head_of type_words cell_slot is_utf8 fault answer firsts is_first class fold_picked frame_text int_wrap escaped fields_text is_blank chars encode digits
+returns-clause-two_keys c = refl
+
+pub returns-clause-null_key_beside : goal.returns-clause-null_key_beside
+unfolding outcome grouped_by table records_from next_record strip_bom head_of type_words cell_slot is_utf8 fault answer firsts is_first class fold_picked frame_text int_wrap escaped fields_text is_blank chars encode digits
+returns-clause-null_key_beside c = refl
+
+pub returns-clause-key_twice : goal.returns-clause-key_twice
+unfolding outcome grouped_by table records_from next_record strip_bom head_of type_words cell_slot is_utf8 fault answer firsts is_first class fold_picked frame_text int_wrap escaped fields_text is_blank chars encode digits
+returns-clause-key_twice c = refl

@@ -26,9 +26,9 @@ pub returns-clause-any_order : goal.returns-clause-any_order
 unfolding request given_from with_option with_number number_within agg_of
 returns-clause-any_order c = refl
 
-pub returns-clause-repeated : goal.returns-clause-repeated
+pub returns-clause-two_keys : goal.returns-clause-two_keys
 unfolding request given_from with_option with_number number_within agg_of
-returns-clause-repeated c = refl
+returns-clause-two_keys c = refl
 
 pub returns-clause-out_of_range : goal.returns-clause-out_of_range
 unfolding request given_from with_option with_number number_within agg_of
@@ -37,3 +37,7 @@ returns-clause-out_of_range c = refl
 pub returns-clause-value_like_an_option : goal.returns-clause-value_like_an_option
 unfolding request given_from with_option with_number number_within agg_of
 returns-clause-value_like_an_option c = refl
+
+pub returns-clause-no_key : goal.returns-clause-no_key
+unfolding request given_from with_option with_number number_within agg_of
+returns-clause-no_key c = refl

@@ -5,7 +5,8 @@ use Rattle.gb_series.specs.Series.{value_of}
 use Rattle.gb_series.proofs.FieldLemmas.{depth_read}
 use Rattle.gb_rows.specs.Keys.{key_cells}
 use Rattle.gb_rows.specs.Rows.{rows_of_cells}
-use Rattle.gb_rows.proofs.KeyLemmas.{array_told, cells_long, fields_told, list_told, one_key, rows_are}
+use Rattle.gb_rows.proofs.KeyLemmas.{array_told, fields_told, list_told}
+use Rattle.gb_rows.proofs.RowLemmas.{cells_long, one_key, rows_are}
 use Rattle.gb_rows.proofs.keys.+encode.Goals as goal
 
 pub all_cells-cells_of_key-requires : goal.all_cells-cells_of_key-requires

@@ -11,7 +11,7 @@ use Rattle.gb_groups.specs.GroupsType.{groups_of}
 use Rattle.gb_series.specs.Series.{value_of}
 use Rattle.gb_run.specs.Grouping.{aggregates_over, unfit_cause}
 use Rattle.gb_run.specs.Request.{aggs_of}
-use Rattle.gb_run.specs.Text.{contents_of}
+use Rattle.gb_text.specs.Text.{contents_of}
 use Rattle.gb_run.specs.declared.words.Agg.{Agg}
 use Rattle.gb_run.proofs.AggLemmas.{found_at, unfit_is}
 use Rattle.gb_run.proofs.CauseLemmas.{causes_at, causes_more, first_cause}

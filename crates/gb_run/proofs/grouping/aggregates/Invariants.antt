@@ -3,7 +3,7 @@ use Rattle.gb_defs.specs.Groups.{lists_in}
 use Rattle.gb_groups.specs.GroupsType.{groups_of}
 use Rattle.gb_run.specs.Grouping.{aggregates_over, unfit_cause}
 use Rattle.gb_run.specs.Request.{aggs_of}
-use Rattle.gb_run.specs.Text.{contents_of}
+use Rattle.gb_text.specs.Text.{contents_of}
 use Rattle.gb_run.proofs.CauseLemmas.{first_cause}
 use Rattle.gb_run.proofs.grouping.aggregates.Given as goal
 

@@ -1,10 +1,11 @@
-use Rattle.std.proofs.Common.{◌≡◌, [], ◌∷◌, map, Ok}
+use Rattle.std.proofs.Common.{◌≡◌, map, Ok}
+use Rattle.std.proofs.lemmas.List.{length-map}
 use Rattle.std.proofs.lemmas.Result.{err_from_is_err_and}
 use Rattle.gb_defs.specs.Column.{content, rechunked}
 use Rattle.gb_defs.specs.Outcome.{Report, outcome}
 use Rattle.gb_base.specs.PlSmallStr.{name_of}
-use Rattle.gb_run.specs.Asked.{asked_names, asked_table}
-use Rattle.gb_run.specs.Request.{aggs_of, group_by, options_of}
+use Rattle.gb_text.specs.Asked.{asked_table}
+use Rattle.gb_run.specs.Request.{aggs_of, asked_names, group_by, names_of, options_of}
 use Rattle.gb_run.specs.Run.{IsRefusedReport}
 use Rattle.gb_run.proofs.ReportLemmas.{bad_group, good_report, read_map, refused_frame, refused_table}
 use Rattle.gb_run.proofs.report.group_report.Goals as goal
@@ -13,11 +14,11 @@ pub returns-in_err-frame-clause-err : goal.returns-in_err-frame-clause-err
 returns-in_err-frame-clause-err g c =
     let p = err_from_is_err_and c.from_residual-in_err-frame.result c.from_residual-in_err-frame.ensures.1 in
     let refused = rw c.as_str.ensures at c.in_err-frame.ensures.err in
-    rw (p.1, p.2) (refused_table (name_of c.args.by.now ∷ []) (aggs_of c.args.aggs.now) (options_of c.args.options.now) _ _ c.args.limit _ _ c.in_err-frame.field-0.0 refused)
+    rw (p.1, p.2) (refused_table (names_of c.args.by.now) (aggs_of c.args.aggs.now) (options_of c.args.options.now) _ _ c.args.limit _ _ c.in_err-frame.field-0.0 refused)
 
 pub returns-in_err-answer-clause-err : goal.returns-in_err-answer-clause-err
 returns-in_err-answer-clause-err g c =
-    let by = name_of c.args.by.now in
+    let by = names_of c.args.by.now in
     let aggs = aggs_of c.args.aggs.now in
     let options = options_of c.args.options.now in
     let p = err_from_is_err_and c.from_residual-in_err-answer.result c.from_residual-in_err-answer.ensures.1 in
@@ -25,15 +26,15 @@ returns-in_err-answer-clause-err g c =
     rw p.1 (refused_frame (outcome (group_by c.args.by.now c.args.aggs.now c.args.options.now)) _ _ c.args.limit _ _ p.0 (read_map c.args.limit _ _
     (λ bytes. asked_table (asked_names by aggs) bytes options.null_word ≡ Ok (map rechunked c.in_ok-frame.frame))
     (λ bytes. IsRefusedReport p.0 (outcome (group_by c.args.by.now c.args.aggs.now c.args.options.now) bytes))
-    (λ bytes r. bad_group by aggs options bytes c.in_ok-frame.frame r c.in_err-answer.field-0.0 p.0 c.in_err-answer.ensures.err p.2) read))
+    (λ bytes r. bad_group by aggs options bytes c.in_ok-frame.frame (rw (length-map c.args.by.now name_of) c.requires.some) r c.in_err-answer.field-0.0 p.0 c.in_err-answer.ensures.err p.2) read))
 
 pub returns-clause-ok : goal.returns-clause-ok
 returns-clause-ok g c =
-    let by = name_of c.args.by.now in
+    let by = names_of c.args.by.now in
     let aggs = aggs_of c.args.aggs.now in
     let options = options_of c.args.options.now in
     let read = rw (c.as_str.ensures, c.deref.ensures.value, c.in_ok-names.ensures) at c.in_ok-frame.ensures.ok in
     let printed = rw c.as_str-2.ensures at c.in_ok-text_of.ensures.ok in
     read_map c.args.limit _ _ (λ bytes. asked_table (asked_names by aggs) bytes options.null_word ≡ Ok (map rechunked c.in_ok-frame.frame))
     (λ bytes. outcome (group_by c.args.by.now c.args.aggs.now c.args.options.now) bytes ≡ Report c.in_ok-text_of.field-0.items)
-    (λ bytes r. good_report by aggs options bytes c.in_ok-frame.frame r (map content c.in_ok-answer.answer) c.in_ok-text_of.field-0.items c.in_ok-answer.ensures.ok printed) read
+    (λ bytes r. good_report by aggs options bytes c.in_ok-frame.frame (rw (length-map c.args.by.now name_of) c.requires.some) r (map content c.in_ok-answer.answer) c.in_ok-text_of.field-0.items c.in_ok-answer.ensures.ok printed) read

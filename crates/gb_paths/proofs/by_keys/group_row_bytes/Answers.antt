@@ -1,0 +1,17 @@
+use Rattle.std.proofs.Common.{◌∙◌, ap, length, subst, sym}
+use Rattle.std.proofs.lemmas.Result.{IfOk-weaker}
+use Rattle.gb_defs.specs.Groups.{HasRowNumbers, IsWellFormed}
+use Rattle.gb_groups.specs.GroupsType.{groups_of}
+use Rattle.gb_rows.specs.Lent.{keys_in}
+use Rattle.gb_paths.proofs.RowBytesLemmas.{rows_many}
+use Rattle.gb_paths.proofs.by_keys.group_row_bytes.Goals as goal
+
+pub group_keys-requires-clause-few : goal.group_keys-requires-clause-few
+group_keys-requires-clause-few g c κs within =
+    let many = ap (λ v. length v.slots) c.in_ok-bytes.ensures.ok ∙ rows_many (keys_in c.args.keys.now) in
+    subst HasRowNumbers (sym many) c.requires.few
+
+pub returns-clause-formed : goal.returns-clause-formed
+returns-clause-formed g c =
+    let many = ap (λ v. length v.slots) c.in_ok-bytes.ensures.ok ∙ rows_many (keys_in c.args.keys.now) in
+    IfOk-weaker c.group_keys.result _ _ (λ groups h. subst (λ n. IsWellFormed n (groups_of groups).pairs) many h) c.group_keys.ensures.formed

@@ -1,0 +1,156 @@
+//! The groups of rows by several keys: rows that hold one slot in each. The keys are put into the bytes of
+//! rows, which are grouped as one column is.
+
+ghost use Rattle.std.specs.Prelude.{◌≡◌, ◌<◌, All, false, length, true, OnOk, IfOk, IfErr};
+ghost use Rattle.gb_defs.specs.Classes.{agree_by, groups, rows_below};
+ghost use Rattle.gb_defs.specs.Column.{frame_height};
+ghost use Rattle.gb_defs.specs.Groups.{HasRowNumbers, IsWellFormed};
+ghost use Rattle.gb_base.specs.PlSmallStr.{IsNoMemory};
+ghost use Rattle.gb_cols.specs.Null.{AreNulls};
+ghost use Rattle.gb_groups.specs.GroupsType.{groups_of};
+ghost use Rattle.gb_flat_series.specs.FlatSeries.{column_of};
+ghost use Rattle.gb_series.specs.Series.{value_of};
+ghost use Rattle.gb_rows.specs.Lent.{keys_in};
+ghost use Rattle.gb_rows.specs.Rows.{AreOfOneLength};
+ghost use Rattle.gb_rows.specs.Told.{AreToldByRows};
+ghost use Rattle.gb_paths.specs.Tuples as tuples;
+ghost use Rattle.gb_paths.specs.Tuples.{IsNullUnlessValued, slots_of, tuples_by, tuples_of_bytes};
+
+use crate::into_groups::{Keys, choose_path, group_keys, group_tuples_gated, one_run};
+use gb_base::device::Gate;
+use gb_base::error::PolarsResult;
+use gb_base::pool::Pool;
+use gb_cols::series_trait::SeriesTrait;
+use gb_flat_series::series::FlatSeries;
+use gb_groups::groups_type::GroupsType;
+use gb_rows::vertical::encode_rows_vertical_par_unordered;
+use gb_series::series::Series;
+use std::alloc::{AllocError, Global};
+use std::thread::Threads;
+
+/// The rows that hold one slot in each key: in the order of their first rows, or by the partitions of their
+/// hashes where more than one worker is to group them and `sorted` is not asked for. One key is grouped as
+/// by `group_tuples`, and a key of the null type adds nothing to others. Each partition enters the gate
+/// with its number, and leaves it.
+pub fn group_by_keys<T: Threads + Sync, G: Gate + Sync>(
+    rt: &T,
+    keys: &[&Series],
+    multithreaded: bool,
+    sorted: bool,
+    pool: &Pool,
+    gate: &G,
+) -> PolarsResult<GroupsType>
+    requires some { 0 < length keys.now }
+    requires aligned { AreOfOneLength (keys_in keys.now) }
+    requires few { HasRowNumbers (frame_height (keys_in keys.now)) }
+    ensures ok { IfOk result (λ g.
+        groups_of g ≡ tuples_by (keys_in keys.now) multithreaded sorted pool.now) }
+    ensures classes { IfOk result (λ g. sorted ≡ true
+        → (groups_of g).pairs ≡ groups (agree_by (slots_of (keys_in keys.now)))
+        (rows_below (frame_height (keys_in keys.now)))) }
+    ensures formed { IfOk result (λ g.
+        IsWellFormed (frame_height (keys_in keys.now)) (groups_of g).pairs) }
+    ensures err { IfErr result IsNoMemory }
+{
+    if keys.len() == 1 {
+        return group_tuples_gated(rt, keys[0], multithreaded, sorted, pool, gate);
+    }
+    group_several(rt, keys, multithreaded, sorted, pool, gate)
+}
+
+// The same by several keys.
+fn group_several<T: Threads + Sync, G: Gate + Sync>(
+    rt: &T,
+    keys: &[&Series],
+    multithreaded: bool,
+    sorted: bool,
+    pool: &Pool,
+    gate: &G,
+) -> PolarsResult<GroupsType>
+    requires several { 1 < length keys.now }
+    requires aligned { AreOfOneLength (keys_in keys.now) }
+    requires few { HasRowNumbers (frame_height (keys_in keys.now)) }
+    ensures ok { IfOk result (λ g.
+        groups_of g ≡ tuples_by (keys_in keys.now) multithreaded sorted pool.now) }
+    ensures formed { IfOk result (λ g.
+        IsWellFormed (frame_height (keys_in keys.now)) (groups_of g).pairs) }
+    ensures err { IfErr result IsNoMemory }
+{
+    let alloc = keys[0].allocator();
+    let valued = valued_keys(alloc, keys)?;
+    if valued.is_empty() {
+        return one_run(alloc, keys[0].len());
+    }
+    group_row_bytes(rt, alloc, &valued, multithreaded, sorted, pool, gate)
+}
+
+// The keys that tell rows apart.
+fn valued_keys<'a>(alloc: Global, keys: &[&'a Series]) -> Result<Vec<&'a Series>, AllocError>
+    ensures valued { IfOk result (λ some.
+        keys_in some.items ≡ tuples.valued_keys (keys_in keys.now)) }
+    ensures nulls { OnOk result (All IsNullUnlessValued (keys_in keys.now)) }
+{
+    let mut valued = Vec::with_capacity(alloc, keys.len())?;
+    for key in keys {
+        if is_valued(key) {
+            valued.push(*key)?;
+        }
+    }
+    Ok(valued)
+}
+
+// Whether a key tells rows apart. One of the null type does not.
+#[tactic(auto, using(crate::proofs::SeveralLemmas::parts_valued))]
+fn is_valued(key: &Series) -> bool
+    ensures value { result ≡ tuples.is_valued (value_of key.now) }
+    ensures nulls { result ≡ false → AreNulls (value_of key.now).slots }
+{
+    key.tell_variant();
+    match key {
+        Series::Flat(column) => is_valued_flat(column),
+        _ => true,
+    }
+}
+
+#[tactic(auto, using(crate::proofs::SeveralLemmas::valued_by_variant))]
+fn is_valued_flat(column: &FlatSeries) -> bool
+    ensures value { result ≡ tuples.is_valued (column_of column.now) }
+    ensures nulls { result ≡ false → AreNulls (column_of column.now).slots }
+{
+    column.tell_variant();
+    match column {
+        FlatSeries::Null(nulls) => {
+            // The call tells that its slots are nulls.
+            let _ = nulls.allocator();
+            false
+        }
+        _ => true,
+    }
+}
+
+// The groups of the rows of keys by their bytes.
+fn group_row_bytes<T: Threads + Sync, G: Gate + Sync>(
+    rt: &T,
+    alloc: Global,
+    keys: &[&Series],
+    multithreaded: bool,
+    sorted: bool,
+    pool: &Pool,
+    gate: &G,
+) -> PolarsResult<GroupsType>
+    requires some { 0 < length keys.now }
+    requires aligned { AreOfOneLength (keys_in keys.now) }
+    requires few { HasRowNumbers (frame_height (keys_in keys.now)) }
+    ensures ok { IfOk result (λ g.
+        groups_of g ≡ tuples_of_bytes (keys_in keys.now) multithreaded sorted pool.now) }
+    ensures told { OnOk result (AreToldByRows (keys_in keys.now)) }
+    ensures formed { IfOk result (λ g.
+        IsWellFormed (frame_height (keys_in keys.now)) (groups_of g).pairs) }
+    ensures err { IfErr result IsNoMemory }
+{
+    let single = Pool::new(1, 1, 1, 1, 0);
+    let encoders = if multithreaded { pool } else { &single };
+    let bytes = encode_rows_vertical_par_unordered(rt, alloc, keys, encoders)?;
+    let path = choose_path(true, bytes.len(), multithreaded, pool);
+    group_keys(rt, alloc, &Keys::RowBytes(bytes), path, sorted, pool, gate)
+}

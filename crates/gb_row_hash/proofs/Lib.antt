@@ -1,0 +1,5 @@
+pub mod CombineLemmas
+pub mod ColumnLemmas
+pub mod AlikeLemmas
+pub mod FaultLemmas
+pub mod RowLemmas

@@ -1,0 +1,4 @@
+-- in the order of dependence
+pub mod Hashes
+pub mod Rows
+pub mod Alike

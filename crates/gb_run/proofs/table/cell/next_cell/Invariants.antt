@@ -1,5 +1,0 @@
-use Rattle.gb_run.proofs.PlainLemmas.{IsScanning}
-use Rattle.gb_run.proofs.table.cell.next_cell.Given as goal
-
-abbrev pub invariant-loop-i : goal.invariant-loop-i
-invariant-loop-i l = IsScanning l.text l.i

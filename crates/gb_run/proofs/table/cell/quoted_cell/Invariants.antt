@@ -1,5 +1,0 @@
-use Rattle.gb_run.proofs.PlainLemmas.{IsWithin}
-use Rattle.gb_run.proofs.table.cell.quoted_cell.Given as goal
-
-abbrev pub invariant-loop-i : goal.invariant-loop-i
-invariant-loop-i l = IsWithin l.body l.i

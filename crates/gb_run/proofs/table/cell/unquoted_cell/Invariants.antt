@@ -1,5 +1,0 @@
-use Rattle.gb_run.proofs.PlainLemmas.{IsUnquoting}
-use Rattle.gb_run.proofs.table.cell.unquoted_cell.Given as goal
-
-abbrev pub invariant-loop-i : goal.invariant-loop-i
-invariant-loop-i l = IsUnquoting l.body l.i l.half l.room.items

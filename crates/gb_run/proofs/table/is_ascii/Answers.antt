@@ -1,5 +1,0 @@
-use Rattle.gb_run.proofs.PushLemmas.{ascii_fields}
-use Rattle.gb_run.proofs.table.is_ascii.Goals as goal
-
-pub returns : goal.returns
-returns c = λ plain. ascii_fields 0 _ _ (rw (plain, c.as_slice.ensures) at c.is_ascii.ensures.cases)

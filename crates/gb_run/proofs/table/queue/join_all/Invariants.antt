@@ -1,9 +1,0 @@
-use Rattle.std.proofs.Common.{◌≡◌}
-use Rattle.gb_run.specs.Queue.{StaysQueue}
-use Rattle.gb_run.proofs.table.queue.join_all.Given as goal
-
-abbrev pub invariant-loop : goal.invariant-loop
-invariant-loop g l = record {
-  stays : StaysQueue l.fn.ahead.jobs.items l.fn.ahead.held.items l.fn.columns.items l.ahead.jobs.items l.ahead.held.items l.columns.items;
-  held : l.ahead.held.items ≡ l.fn.ahead.held.items;
-}

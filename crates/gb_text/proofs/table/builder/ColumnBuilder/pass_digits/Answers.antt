@@ -1,0 +1,11 @@
+use Rattle.std.proofs.Common.{◌∙◌, ap, sym}
+use Rattle.gb_text.specs.Builder.{built}
+use Rattle.gb_text.proofs.BuilderLemmas.{cell_checked}
+use Rattle.gb_text.proofs.DigitsLemmas.{digits_read}
+use Rattle.gb_text.proofs.table.builder.ColumnBuilder.pass_digits.Goals as goal
+
+pub returns : goal.returns
+returns c null_word cell few =
+    let now = sym c.self.view_is ∙ ap (built c.self.inside.cells) c.in-Some.is in
+    let passes = rw now at c.requires.passes in
+    rw now (cell_checked null_word cell c.self.inside.cells c.in-Some.count (digits_read null_word cell _ few passes.words))

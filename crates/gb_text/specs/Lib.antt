@@ -1,0 +1,17 @@
+pub mod Asked
+pub mod Builder
+pub mod Building
+pub mod FaultText
+pub mod Grown
+pub mod Head
+pub mod Job
+pub mod Moved
+pub mod Part
+pub mod Plain
+pub mod Queue
+pub mod Refusal
+pub mod Status
+pub mod Stream
+pub mod Table
+pub mod Taking
+pub mod Text
