@@ -106,7 +106,7 @@ def chart(results):
     parts = [
         "<title>Millions of rows that each program groups in a second</title>",
         rectangle(0, 0, WIDTH, height, "#ffffff"),
-        text(20, 30, "Grouping a typed CSV table: one key, a sum and a count", size=17, weight="bold"),
+        text(20, 30, "Grouping a typed CSV table by one key or several", size=17, weight="bold"),
         text(20, 47, f"tables of up to {rows:,} rows", colour="#666666"),
         *names,
         *axis(most, top, height),

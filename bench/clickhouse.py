@@ -9,7 +9,6 @@ import tempfile
 import time
 
 from quiet import quietly
-from tables import COLUMNS, WHOLE
 
 TICKS = os.sysconf("SC_CLK_TCK")
 SECONDS_TO_START = 20
@@ -54,21 +53,29 @@ def by_place(words):
     return option if quietly([*words, *option, "--query", "select 1"]) is not None else []
 
 
-def structure():
+def structure(case):
     """The columns. Those that hold nulls are read as texts."""
-    texts = ("day", "key", "city", "amount")
-    return ", ".join(f"{name} {'String' if name in texts else 'Int64'}" for name in COLUMNS)
+    texts = ("day", *case.key_names, "city", "amount")
+    return ", ".join(f"{name} {'String' if name in texts else 'Int64'}" for name in case.columns)
 
 
-def query(table, source):
-    key = "toInt64OrNull(key)" if table.case.key_type in WHOLE else "key"
-    groups = f"select {key} as k, sum(toInt64OrZero(amount)) as s, count() as c from {source} group by k"
-    return f"select ifNull(toString(k), ''), s, c from ({groups}) format CSVWithNames"
+def query(case, source):
+    """The columns of the groups have other names than those of the table."""
+    keys = {f"k{number}": key for number, key in enumerate(case.keys)}
+    made = {name: f"toInt64OrNull({key.name})" if key.is_whole else key.name for name, key in keys.items()}
+    made["s"] = "sum(toInt64OrZero(amount))"
+    if case.counted:
+        made["c"] = "count()"
+    columns = ", ".join(f"{value} as {name}" for name, value in made.items())
+    groups = f"select {columns} from {source} group by {', '.join(keys)}"
+    answer = ", ".join(f"ifNull(toString({name}), '')" if name in keys else name for name in made)
+    return f"select {answer} from ({groups}) format CSVWithNames"
 
 
 def local_command(table, threads):
-    files = ["--file", table.path, "--input-format", "CSVWithNames", "--table", "sales", "--structure", structure()]
-    return [*local(), *local_by_place(), *files, "--max_threads", str(threads), "--query", query(table, "sales")]
+    case = table.case
+    files = ["--file", table.path, "--input-format", "CSVWithNames", "--table", "sales", "--structure", structure(case)]
+    return [*local(), *local_by_place(), *files, "--max_threads", str(threads), "--query", query(case, "sales")]
 
 
 def free_port():
@@ -107,8 +114,8 @@ class Server:
         return ["clickhouse-client", "--host", "127.0.0.1", "--port", str(self.port)]
 
     def command(self, table, threads):
-        source = f"file('{os.path.basename(table.path)}', 'CSVWithNames', '{structure()}')"
-        return [*self.client(), *self.by_place, "--max_threads", str(threads), "--query", query(table, source)]
+        source = f"file('{os.path.basename(table.path)}', 'CSVWithNames', '{structure(table.case)}')"
+        return [*self.client(), *self.by_place, "--max_threads", str(threads), "--query", query(table.case, source)]
 
     def forget_peak(self):
         with open(f"/proc/{self.process.pid}/clear_refs", "w", encoding="ascii") as file:

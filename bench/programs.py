@@ -14,7 +14,6 @@ from tables import Table
 
 FOLDER = os.path.dirname(os.path.abspath(__file__))
 BASELINE = "baseline"
-WORDS = ["group", "--by", "key", "--agg", "sum:amount", "--agg", "count:quantity"]
 RUST = ["-C", "opt-level=3", "-C", "lto=fat", "-C", "codegen-units=1", "-C", "panic=abort"]
 
 
@@ -46,9 +45,15 @@ def build_baseline(folder):
     return program
 
 
+def words(case, threads):
+    """What gb_tool and the plain program are told."""
+    keys = [word for name in case.key_names for word in ("--by", name)]
+    count = ["--agg", "count:quantity"] if case.counted else []
+    return ["group", *keys, "--agg", "sum:amount", *count, "--workers", str(threads)]
+
+
 def own_program(name, path, threads):
-    command = [path, *WORDS, "--workers", str(threads)]
-    return Program(with_threads(name, threads), lambda table: command, threads, own=True)
+    return Program(with_threads(name, threads), lambda table: [path, *words(table.case, threads)], threads, own=True)
 
 
 def own_programs(tool, baseline, workers):
@@ -62,8 +67,8 @@ def with_threads(name, threads):
 
 
 PLAIN = {
-    "mawk": Program("mawk", lambda table: peers.awk("mawk"), header=False, quotes=False),
-    "gawk": Program("gawk", lambda table: peers.awk("gawk"), header=False, quotes=False),
+    "mawk": Program("mawk", lambda table: peers.awk("mawk", table), header=False, quotes=False),
+    "gawk": Program("gawk", lambda table: peers.awk("gawk", table), header=False, quotes=False),
     "datamash": Program("datamash", peers.datamash, header=False, marked=True, quotes=False),
     "mlr": Program("mlr", peers.mlr),
     "sqlite3": Program("sqlite3", peers.sqlite3, header=False),
@@ -99,5 +104,5 @@ def installed_peers(names, workers, folder, stack):
 
 
 def threaded(name, threads, server):
-    words = server.command if server else THREADED[name]
-    return Program(with_threads(name, threads), lambda table: words(table, threads), threads, server=server)
+    command = server.command if server else THREADED[name]
+    return Program(with_threads(name, threads), lambda table: command(table, threads), threads, server=server)

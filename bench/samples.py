@@ -66,10 +66,14 @@ def normal_rows(program, text):
     """The rows of an answer in order of their bytes, without header and quotes, null spelled as nothing."""
     rows = text.replace(b'"', b"").replace(b"\r", b"").splitlines()
     rows = rows[1:] if program.header else rows
-    mark = f"{NULL_MARK},".encode()
     if program.marked:
-        rows = [row.removeprefix(NULL_MARK.encode()) if row.startswith(mark) else row for row in rows]
+        rows = [without_marks(row) for row in rows]
     return sorted(rows)
+
+
+def without_marks(row):
+    mark = NULL_MARK.encode()
+    return b",".join(b"" if field == mark else field for field in row.split(b","))
 
 
 def sample(program, table, answer, measured):

@@ -7,11 +7,8 @@ from dataclasses import dataclass
 
 LARGEST_INPUT = 268_435_456
 CHUNK = 50_000
-FEW_GROUPS = 100
+FEW_VALUES = 100
 ROWS_PER_GROUP = 10
-HEADER = "sale:i64,day:str,key:{key_type},city:str,amount:i64,quantity:i64"
-COLUMNS = ["sale", "day", "key", "city", "amount", "quantity"]
-KEY, AMOUNT, QUANTITY = (COLUMNS.index(name) + 1 for name in ("key", "amount", "quantity"))
 WHOLE = ("i64", "date")
 NULL_MARK = "NA"
 IN_EACH, IN_LAST = "each", "last"
@@ -34,17 +31,37 @@ SPELLINGS = {
 
 
 @dataclass(frozen=True)
+class Key:
+    """A key column. Its values are a hundred, or one for each so many rows."""
+
+    type: str
+    rows_per_value: int = 0
+    name: str = "key"
+
+    @property
+    def is_whole(self):
+        return self.type in WHOLE
+
+    def spell(self, number):
+        """One of the values."""
+        return SPELLINGS[self.type](number)
+
+    def values(self, rows):
+        return rows // self.rows_per_value if self.rows_per_value else FEW_VALUES
+
+
+@dataclass(frozen=True)
 class Case:
-    """A kind of table. Its `many` groups are one for each ten rows; quoted fields stand in each row, or in the
-    last one, or in none."""
+    """A kind of table, and what is asked of it: by its keys the sum of the amounts and, mostly, the number of
+    rows. Quoted fields stand in each row, or in the last one, or in none."""
 
     name: str
     title: str
-    key_type: str
-    many: bool
+    keys: list[Key]
     in_order: bool = False
     quotes: str = ""
     line_end: str = "\n"
+    counted: bool = True
 
     @property
     def cities(self):
@@ -53,29 +70,57 @@ class Case:
     @property
     def last_rows(self):
         """A row with a quoted field, where only the last has one."""
-        return [f"0,{DAYS[0]},{self.spell(0)},{QUOTED_CITIES[0]},1,1"] if self.quotes == IN_LAST else []
+        keys = ",".join(key.spell(0) for key in self.keys)
+        return [f"0,{DAYS[0]},{keys},{QUOTED_CITIES[0]},1,1"] if self.quotes == IN_LAST else []
 
-    def groups(self, rows):
-        return rows // ROWS_PER_GROUP if self.many else FEW_GROUPS
+    @property
+    def header(self):
+        keys = ",".join(f"{key.name}:{key.type}" for key in self.keys)
+        return f"sale:i64,day:str,{keys},city:str,amount:i64,quantity:i64"
 
-    def spell(self, number):
-        """The key of a group."""
-        return SPELLINGS[self.key_type](number)
+    @property
+    def columns(self):
+        return [field.split(":")[0] for field in self.header.split(",")]
 
+    @property
+    def key_names(self):
+        return [key.name for key in self.keys]
+
+    @property
+    def asked(self):
+        """The columns that an answer is made of."""
+        return [*self.key_names, "amount", *(["quantity"] if self.counted else [])]
+
+    def number(self, column):
+        """The number of a column, from 1 on."""
+        return self.columns.index(column) + 1
+
+
+FEW_TEXTS = [Key("str")]
+SIX_KEYS = [
+    Key("str", name="id1"),
+    Key("str", name="id2"),
+    Key("str", 100, "id3"),
+    Key("i64", name="id4"),
+    Key("i64", name="id5"),
+    Key("i64", 100, "id6"),
+]
 
 CASES = [
-    Case("text-few", "texts, few groups", "str", many=False),
-    Case("text-many", "texts, many groups", "str", many=True),
-    Case("int-few", "numbers, few groups", "i64", many=False),
-    Case("int-many", "numbers, many groups", "i64", many=True),
-    Case("sorted", "sorted numbers", "i64", many=True, in_order=True),
-    Case("decimals", "decimals, many groups", "dec2", many=True),
-    Case("dates", "dates, many groups", "date", many=True),
-    Case("flags", "booleans", "bool", many=False),
-    Case("categories", "categories, few groups", "cat", many=False),
-    Case("quoted", "texts, a quote in each row", "str", many=False, quotes=IN_EACH),
-    Case("quoted-last", "texts, a quote in the last row", "str", many=False, quotes=IN_LAST),
-    Case("two-byte-ends", "texts, lines end in \\r\\n", "str", many=False, line_end="\r\n"),
+    Case("text-few", "texts, few groups", FEW_TEXTS),
+    Case("text-many", "texts, many groups", [Key("str", ROWS_PER_GROUP)]),
+    Case("int-few", "numbers, few groups", [Key("i64")]),
+    Case("int-many", "numbers, many groups", [Key("i64", ROWS_PER_GROUP)]),
+    Case("sorted", "sorted numbers", [Key("i64", ROWS_PER_GROUP)], in_order=True),
+    Case("decimals", "decimals, many groups", [Key("dec2", ROWS_PER_GROUP)]),
+    Case("dates", "dates, many groups", [Key("date", ROWS_PER_GROUP)]),
+    Case("flags", "booleans", [Key("bool")]),
+    Case("categories", "categories, few groups", [Key("cat")]),
+    Case("quoted", "texts, a quote in each row", FEW_TEXTS, quotes=IN_EACH),
+    Case("quoted-last", "texts, a quote in the last row", FEW_TEXTS, quotes=IN_LAST),
+    Case("two-byte-ends", "texts, lines end in \\r\\n", FEW_TEXTS, line_end="\r\n"),
+    Case("two-keys", "two keys of texts", SIX_KEYS[:2], counted=False),
+    Case("six-keys", "six keys, a group a row", SIX_KEYS),
 ]
 
 
@@ -89,27 +134,23 @@ class Table:
     path: str
     marked_path: str
 
-    @property
-    def header(self):
-        return HEADER.format(key_type=self.case.key_type)
 
-
-def drawn_keys(case, draw, rows):
-    """Endless keys of groups drawn by chance, one in a hundred null."""
-    groups = case.groups(rows)
-    keys = [case.spell(number) for number in range(groups)] + [""] * (groups // 100)
+def drawn_keys(key, draw, rows):
+    """Endless values of a key drawn by chance, one in a hundred null."""
+    count = key.values(rows)
+    values = [key.spell(number) for number in range(count)] + [""] * (count // 100)
     while True:
-        yield from draw.choices(keys, k=CHUNK)
+        yield from draw.choices(values, k=CHUNK)
 
 
-def ascending_keys(case, draw, rows):
-    """Endless keys that never fall, after nulls on one row in a hundred; a group has ten rows on average."""
+def ascending_keys(key, draw, rows):
+    """Endless values that never fall, after nulls on one row in a hundred; each has its rows on average."""
     yield from itertools.repeat("", rows // 100)
     number = 0
     while True:
-        for step in draw.choices(range(ROWS_PER_GROUP), k=CHUNK):
+        for step in draw.choices(range(key.rows_per_value), k=CHUNK):
             number += step == 0
-            yield case.spell(number)
+            yield key.spell(number)
 
 
 def lines(case, rows):
@@ -119,13 +160,13 @@ def lines(case, rows):
 def chunks(case, rows):
     """The rows of a table as texts of up to CHUNK rows."""
     draw = random.Random(f"{case.name} {rows}")
-    keys = (ascending_keys if case.in_order else drawn_keys)(case, draw, rows)
+    keys = [(ascending_keys if case.in_order else drawn_keys)(key, draw, rows) for key in case.keys]
     for begin in range(0, rows, CHUNK):
         count = min(CHUNK, rows - begin)
         fields = zip(
             map(str, range(begin + 1, begin + count + 1)),
             draw.choices(DAYS, k=count),
-            itertools.islice(keys, count),
+            *(itertools.islice(values, count) for values in keys),
             draw.choices(case.cities, k=count),
             draw.choices(AMOUNTS, k=count),
             draw.choices(QUANTITIES, k=count),
@@ -152,12 +193,20 @@ def row_chunks(case, rows, room):
     yield last
 
 
+def marked_nulls(data):
+    """Rows with their nulls marked, of which none stands first or last. Of nulls side by side the first look
+    finds each second one."""
+    for _ in range(2):
+        data = data.replace(b",,", f",{NULL_MARK},".encode())
+    return data
+
+
 def make_table(case, size, folder):
     """Writes the table of so many rows, or of as many as the largest input has, where the size is "max"."""
     rows = most_rows(case) if size == "max" else int(size)
     path = os.path.join(folder, f"{case.name}-{size}.csv")
     marked_path = os.path.join(folder, f"{case.name}-{size}-marked.csv")
-    header = lines(case, [HEADER.format(key_type=case.key_type)]).encode()
+    header = lines(case, [case.header]).encode()
     length, made = len(header), 0
     with open(path, "wb") as plain, open(marked_path, "wb") as marked:
         plain.write(header)
@@ -165,8 +214,7 @@ def make_table(case, size, folder):
         for data in row_chunks(case, rows, LARGEST_INPUT - length):
             length += plain.write(data)
             made += data.count(b"\n")
-            # Columns that hold nulls stand between columns that hold none.
-            marked.write(data.replace(b",,", f",{NULL_MARK},".encode()))
+            marked.write(marked_nulls(data))
     return Table(case, made, length, path, marked_path)
 
 

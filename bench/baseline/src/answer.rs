@@ -3,8 +3,9 @@
 use std::io::{self, Write};
 
 use crate::column_type::ColumnType;
-use crate::groups::{Groups, Key};
+use crate::groups::Groups;
 use crate::header::Plan;
+use crate::keys::{GroupKeys, Key};
 use crate::merge::Merged;
 use crate::request::Request;
 use crate::words::short_text;
@@ -14,8 +15,8 @@ use crate::workers::each;
 const BLOCK: usize = 1 << 14;
 
 /// Writes the answer in blocks, of which as many are spelled at once as there are workers.
-pub fn write(
-    merged: &Merged,
+pub fn write<'a, K: GroupKeys<'a>>(
+    merged: &Merged<K>,
     plan: &Plan,
     request: &Request,
     mut output: impl Write,
@@ -43,7 +44,11 @@ fn header(plan: &Plan) -> Vec<u8> {
     text
 }
 
-fn spelled(rows: &[(&Groups, usize)], plan: &Plan, request: &Request) -> Vec<u8> {
+fn spelled<'a, K: GroupKeys<'a>>(
+    rows: &[(&Groups<K>, usize)],
+    plan: &Plan,
+    request: &Request,
+) -> Vec<u8> {
     let mut text = Vec::new();
     for &(groups, place) in rows {
         write_row(groups, place, plan, request, &mut text);
@@ -51,12 +56,23 @@ fn spelled(rows: &[(&Groups, usize)], plan: &Plan, request: &Request) -> Vec<u8>
     text
 }
 
-fn write_row(groups: &Groups, place: usize, plan: &Plan, request: &Request, text: &mut Vec<u8>) {
+fn write_row<'a, K: GroupKeys<'a>>(
+    groups: &Groups<K>,
+    place: usize,
+    plan: &Plan,
+    request: &Request,
+    text: &mut Vec<u8>,
+) {
     let begin = text.len();
-    match groups.key(place) {
-        Key::Null => write_text(request.null_word.as_bytes(), text),
-        Key::Short(key) => write_short_key(key, plan, text),
-        Key::Long(key) => write_text(key, text),
+    for (number, column) in plan.keys.iter().enumerate() {
+        if number > 0 {
+            text.push(b',');
+        }
+        match groups.keys.key(place, column) {
+            Key::Null => write_text(request.null_word.as_bytes(), text),
+            Key::Packed(key) => write_packed(key, column.column_type, text),
+            Key::Text(key) => write_text(key, text),
+        }
     }
     if text.len() == begin && plan.folds.is_empty() {
         // A line of nothing would be passed over.
@@ -70,8 +86,8 @@ fn write_row(groups: &Groups, place: usize, plan: &Plan, request: &Request, text
     text.push(b'\n');
 }
 
-fn write_short_key(key: u128, plan: &Plan, text: &mut Vec<u8>) {
-    match plan.key_type {
+fn write_packed(key: u128, column_type: ColumnType, text: &mut Vec<u8>) {
+    match column_type {
         ColumnType::Number(form) => form.write(key as i128, text),
         ColumnType::Flag => text.extend_from_slice(if key == 1 { b"true" } else { b"false" }),
         ColumnType::Text | ColumnType::Bytes | ColumnType::Null => {

@@ -1,29 +1,23 @@
 //! Some rows at a time: their keys, and the numbers that are summed. Each cell of the rows is checked.
 
-use std::borrow::Cow;
-
 use crate::column_type::ColumnType;
 use crate::fault::Fault;
 use crate::header::{Plan, Role};
+use crate::keys::RowKeys;
 use crate::reader::{Reader, TextCell};
-use crate::words::is_long;
 
 const MOST_ROWS: usize = 256;
 
-pub struct Batch<'a> {
-    /// The key of each row, or nothing for null.
-    pub keys: Vec<Option<u128>>,
-    /// The texts of those keys that do not hold them, in the order of their rows.
-    pub long_texts: Vec<Cow<'a, [u8]>>,
+pub struct Batch<R> {
+    pub keys: R,
     /// The numbers of each column that is summed, 0 for null.
     pub numbers: Vec<Vec<i128>>,
 }
 
-impl<'a> Batch<'a> {
-    pub fn new(plan: &Plan) -> Batch<'a> {
+impl<'a, R: RowKeys<'a>> Batch<R> {
+    pub fn new(plan: &Plan) -> Batch<R> {
         Batch {
-            keys: Vec::with_capacity(MOST_ROWS),
-            long_texts: Vec::new(),
+            keys: R::default(),
             numbers: vec![Vec::with_capacity(MOST_ROWS); plan.summed],
         }
     }
@@ -31,7 +25,6 @@ impl<'a> Batch<'a> {
     /// Replaces the rows by those from a place on, and tells the place behind them. There are none at the end.
     pub fn fill(&mut self, reader: &Reader<'a>, plan: &Plan, place: usize) -> Result<usize, Fault> {
         self.keys.clear();
-        self.long_texts.clear();
         for numbers in &mut self.numbers {
             numbers.clear();
         }
@@ -46,6 +39,7 @@ impl<'a> Batch<'a> {
                 end = reader.behind_comma(end)?;
             }
             end = self.read_cell(reader, last, end)?;
+            self.keys.end_row();
             place = reader.behind_record(end)?;
         }
         Ok(place)
@@ -86,7 +80,7 @@ impl<'a> Batch<'a> {
     #[inline(always)]
     fn keep(&mut self, role: &Role, key: Option<u128>, number: Option<i128>) {
         if role.is_key {
-            self.keys.push(key);
+            self.keys.push_number(key);
         }
         if let Some(place) = role.summed {
             self.numbers[place].push(number.unwrap_or(0));
@@ -97,11 +91,7 @@ impl<'a> Batch<'a> {
     #[inline(always)]
     fn keep_text(&mut self, role: &Role, (cell, end): (Option<TextCell<'a>>, usize)) -> usize {
         if role.is_key {
-            let key = cell.as_ref().map(TextCell::key);
-            self.keys.push(key);
-            if let (Some(cell), Some(true)) = (cell, key.map(is_long)) {
-                self.long_texts.push(cell.into_text());
-            }
+            self.keys.push_text(cell);
         }
         end
     }

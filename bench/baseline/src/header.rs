@@ -19,12 +19,19 @@ pub struct Column {
 /// What is done with the cells of each column, of which all are checked.
 pub struct Plan {
     pub roles: Vec<Role>,
-    pub key_type: ColumnType,
+    /// The keys, in the order of the request.
+    pub keys: Vec<KeyColumn>,
     pub folds: Vec<Fold>,
     /// The names and types of the answer's columns.
     pub answer: Vec<String>,
     /// How many columns are summed.
     pub summed: usize,
+}
+
+pub struct KeyColumn {
+    pub column_type: ColumnType,
+    /// The place of the column among all key columns of the table.
+    pub part: usize,
 }
 
 pub struct Role {
@@ -78,22 +85,25 @@ pub fn read_header(reader: &Reader) -> Result<(Vec<Column>, usize), Fault> {
 
 /// What the request asks of the columns.
 pub fn plan(columns: &[Column], request: &Request) -> Result<Plan, Fault> {
-    let key = position(columns, &request.key)?;
+    let keys = request.keys.iter().map(|name| position(columns, name));
+    let keys = keys.collect::<Result<Vec<_>, _>>()?;
     check_names(request)?;
     let roles = columns.iter().enumerate().map(|(place, column)| Role {
         column_type: column.column_type,
         glance: Glance::Nothing,
-        is_key: place == key,
+        is_key: keys.contains(&place),
         summed: None,
     });
-    let field = format!("{}:{}", request.key, columns[key].type_word);
     let mut plan = Plan {
         roles: roles.collect(),
-        key_type: columns[key].column_type,
+        keys: Vec::new(),
         folds: Vec::new(),
-        answer: vec![field],
+        answer: Vec::new(),
         summed: 0,
     };
+    for &key in &keys {
+        plan.add_key(columns, key);
+    }
     for aggregate in &request.aggregates {
         plan.add(columns, aggregate)?;
     }
@@ -119,6 +129,17 @@ impl Role {
 }
 
 impl Plan {
+    fn add_key(&mut self, columns: &[Column], place: usize) {
+        let column = &columns[place];
+        let before = self.roles[..place].iter();
+        self.keys.push(KeyColumn {
+            column_type: column.column_type,
+            part: before.filter(|role| role.is_key).count(),
+        });
+        self.answer
+            .push(format!("{}:{}", column.name, column.type_word));
+    }
+
     fn add(&mut self, columns: &[Column], aggregate: &Aggregate) -> Result<(), Fault> {
         let place = position(columns, &aggregate.column)?;
         let column = &columns[place];
@@ -147,9 +168,11 @@ impl Plan {
 
 /// The columns of the answer have different names.
 fn check_names(request: &Request) -> Result<(), Fault> {
-    let mut names = HashSet::from([request.key.clone()]);
-    for aggregate in &request.aggregates {
-        if !names.insert(aggregate.name()) {
+    let keys = request.keys.iter().cloned();
+    let names = keys.chain(request.aggregates.iter().map(Aggregate::name));
+    let mut seen = HashSet::new();
+    for name in names {
+        if !seen.insert(name) {
             return Err(Fault::Group("two columns of the answer have one name"));
         }
     }

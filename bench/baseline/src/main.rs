@@ -1,6 +1,6 @@
-//! Groups a typed CSV table by one column, as `gb_tool group` does: plain Rust, nothing proved.
+//! Groups a typed CSV table by one column or several, as `gb_tool group` does: plain Rust, nothing proved.
 //!
-//!     baseline group --by NAME [--agg sum:NAME | --agg count:NAME]... [--null WORD] [--workers N] < TABLE
+//!     baseline group --by NAME... [--agg sum:NAME | --agg count:NAME]... [--null WORD] [--workers N] < TABLE
 
 mod answer;
 mod batch;
@@ -9,18 +9,24 @@ mod fault;
 mod groups;
 mod header;
 mod input;
+mod keys;
 mod merge;
 mod numbers;
+mod one_key;
 mod parts;
 mod reader;
 mod request;
+mod several_keys;
+mod slots;
 mod words;
 mod workers;
 
-use std::io;
+use std::io::{self, Write};
 use std::process::ExitCode;
 
 use crate::fault::Fault;
+use crate::header::Plan;
+use crate::keys::GroupKeys;
 use crate::reader::Reader;
 use crate::request::Request;
 
@@ -37,9 +43,27 @@ fn main() -> ExitCode {
 fn run() -> Result<(), Fault> {
     let request = Request::from_words(std::env::args().skip(1))?;
     let input = input::standard_input().map_err(Fault::Read)?;
-    let reader = Reader::new(&input, request.null_word.as_bytes());
+    group(&input, &request, io::stdout().lock())
+}
+
+/// Writes what a request asks of a table.
+fn group(table: &[u8], request: &Request, output: impl Write) -> Result<(), Fault> {
+    let reader = Reader::new(table, request.null_word.as_bytes());
     let (columns, rows) = header::read_header(&reader)?;
-    let plan = header::plan(&columns, &request)?;
-    let merged = parts::group_rows(&reader, rows, &plan, request.workers)?;
-    answer::write(&merged, &plan, &request, io::stdout().lock()).map_err(Fault::Write)
+    let plan = header::plan(&columns, request)?;
+    match plan.keys.len() {
+        1 => group_rows::<one_key::Keys>(&reader, rows, &plan, request, output),
+        _ => group_rows::<several_keys::Keys>(&reader, rows, &plan, request, output),
+    }
+}
+
+fn group_rows<'a, K: GroupKeys<'a>>(
+    reader: &Reader<'a>,
+    place: usize,
+    plan: &Plan,
+    request: &Request,
+    output: impl Write,
+) -> Result<(), Fault> {
+    let merged = parts::group_rows::<K>(reader, place, plan, request.workers)?;
+    answer::write(&merged, plan, request, output).map_err(Fault::Write)
 }

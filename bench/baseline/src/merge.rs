@@ -2,24 +2,25 @@
 
 use crate::groups::Groups;
 use crate::header::Plan;
+use crate::keys::GroupKeys;
 use crate::workers::each;
 
 /// All groups, in shares that have no key in common.
-pub struct Merged<'a> {
-    shares: Vec<Share<'a>>,
+pub struct Merged<K> {
+    shares: Vec<Share<K>>,
 }
 
-struct Share<'a> {
-    groups: Groups<'a>,
+struct Share<K> {
+    groups: Groups<K>,
     /// The rank of each group, which ascends: how many groups of all parts stand before its first one.
     ranks: Vec<usize>,
 }
 
 /// Merges the groups of parts of the rows, in the order of the parts, by as many workers.
-pub fn merge<'a>(mut parts: Vec<Groups<'a>>, plan: &Plan) -> Merged<'a> {
+pub fn merge<'a, K: GroupKeys<'a>>(mut parts: Vec<Groups<K>>, plan: &Plan) -> Merged<K> {
     if parts.len() == 1 {
         let groups = parts.remove(0);
-        let ranks = (0..groups.count()).collect();
+        let ranks = (0..groups.keys.count()).collect();
         return Merged {
             shares: vec![Share { groups, ranks }],
         };
@@ -28,26 +29,26 @@ pub fn merge<'a>(mut parts: Vec<Groups<'a>>, plan: &Plan) -> Merged<'a> {
     Merged { shares }
 }
 
-fn merge_share<'a>(parts: &[Groups<'a>], number: usize, plan: &Plan) -> Share<'a> {
+fn merge_share<'a, K: GroupKeys<'a>>(parts: &[Groups<K>], number: usize, plan: &Plan) -> Share<K> {
     let mut groups = Groups::new(plan);
     let mut ranks = Vec::new();
     let mut before = 0;
     for part in parts {
-        for place in 0..part.count() {
-            if part.share(place, parts.len()) == number
+        for place in 0..part.keys.count() {
+            if part.keys.share(place, parts.len()) == number
                 && groups.add_group(part, place) == ranks.len()
             {
                 ranks.push(before + place);
             }
         }
-        before += part.count();
+        before += part.keys.count();
     }
     Share { groups, ranks }
 }
 
-impl<'a> Merged<'a> {
+impl<K> Merged<K> {
     /// All groups in the order of their first rows, each by a share and its place there.
-    pub fn in_order(&self) -> impl Iterator<Item = (&Groups<'a>, usize)> {
+    pub fn in_order(&self) -> impl Iterator<Item = (&Groups<K>, usize)> {
         let mut next = vec![0; self.shares.len()];
         std::iter::from_fn(move || {
             let shares = self.shares.iter().zip(&next).enumerate();

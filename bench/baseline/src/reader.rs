@@ -6,7 +6,7 @@ use std::cell::Cell;
 
 use crate::fault::Fault;
 use crate::numbers::{digits, NumberForm, SHORT};
-use crate::words::{ends_field, field_end, key_of_text, short_number_end};
+use crate::words::{append_first, ends_field, field_end, key_of_text, short_number_end};
 
 const BAD_CELL: Fault = Fault::Table("a cell does not read by the type of its column");
 const OTHER_LENGTH: Fault = Fault::Table("a record has another number of fields than the header");
@@ -50,6 +50,22 @@ impl<'a> TextCell<'a> {
     #[inline(always)]
     pub fn key(&self) -> u128 {
         key_of_text(&self.text, self.begin, self.end)
+    }
+
+    #[inline(always)]
+    pub fn length(&self) -> usize {
+        self.end - self.begin
+    }
+
+    /// Appends the text, a short one by a copy of as many bytes as any other.
+    #[inline(always)]
+    pub fn append_to(&self, bytes: &mut Vec<u8>) {
+        match self.text[self.begin..].first_chunk() {
+            Some(block) if self.length() <= block.len() => {
+                append_first(self.length(), block, bytes)
+            }
+            _ => bytes.extend_from_slice(&self.text[self.begin..self.end]),
+        }
     }
 
     pub fn into_text(self) -> Cow<'a, [u8]> {

@@ -19,7 +19,7 @@ pub struct Aggregate {
 
 #[derive(Debug, PartialEq, Eq)]
 pub struct Request {
-    pub key: String,
+    pub keys: Vec<String>,
     pub aggregates: Vec<Aggregate>,
     pub null_word: String,
     pub workers: usize,
@@ -30,7 +30,7 @@ impl Request {
         if words.next().as_deref() != Some("group") {
             return Err(Fault::Words("the first word is not `group`"));
         }
-        let mut key = None;
+        let mut keys = Vec::new();
         let mut aggregates = Vec::new();
         let mut null_word = String::new();
         let mut workers = USUAL_WORKERS;
@@ -39,16 +39,18 @@ impl Request {
                 .next()
                 .ok_or(Fault::Words("an option lacks its value"))?;
             match option.as_str() {
-                "--by" => key = Some(value),
+                "--by" => keys.push(value),
                 "--agg" => aggregates.push(Aggregate::from_word(&value)?),
                 "--null" => null_word = value,
                 "--workers" => workers = workers_of_word(&value)?,
                 _ => return Err(Fault::Words("an option is unknown")),
             }
         }
-        let key = key.ok_or(Fault::Words("`--by` is missing"))?;
+        if keys.is_empty() {
+            return Err(Fault::Words("`--by` is missing"));
+        }
         Ok(Request {
-            key,
+            keys,
             aggregates,
             null_word,
             workers,

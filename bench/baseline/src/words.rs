@@ -1,8 +1,11 @@
 //! Words of eight bytes of a text, by which the end of a field is sought, and texts are told apart.
 
+/// The bytes of a word.
+pub const WORD: usize = 8;
 const LOWEST_BITS: u64 = 0x0101_0101_0101_0101;
 const HIGHEST_BITS: u64 = 0x8080_8080_8080_8080;
 const MULTIPLIER: u64 = 0x9E37_79B9_7F4A_7C15;
+const OTHER_MULTIPLIER: u64 = 0x8EBC_6AF0_9C88_C6E3;
 /// A text of so many bytes is longer than its key holds.
 const LONG: usize = 16;
 const LONG_MARK: u64 = 0xFF << 56;
@@ -121,6 +124,14 @@ pub fn short_text(key: u128) -> ([u8; 16], usize) {
     (bytes, bytes[15].into())
 }
 
+/// Appends the first bytes of sixteen, all of which are copied, which needs no loop.
+#[inline(always)]
+pub fn append_first(count: usize, block: &[u8; 16], bytes: &mut Vec<u8>) {
+    let end = bytes.len() + count;
+    bytes.extend_from_slice(block);
+    bytes.truncate(end);
+}
+
 fn hash_of_text(text: &[u8]) -> u64 {
     let words = (0..text.len()).step_by(8);
     words.fold(text.len() as u64, |hash, place| {
@@ -128,11 +139,26 @@ fn hash_of_text(text: &[u8]) -> u64 {
     })
 }
 
+/// A hash of bytes that are whole words, two of them at a time. A last product ends it, since texts that are much
+/// alike are not spread well by one alone.
+#[inline(always)]
+pub fn hash_of_words(bytes: &[u8]) -> u64 {
+    let mut pairs = bytes.chunks_exact(2 * WORD);
+    let hash = pairs.by_ref().fold(bytes.len() as u64, |hash, pair| {
+        folded(word_at(pair, 0) ^ MULTIPLIER, word_at(pair, WORD) ^ hash)
+    });
+    let last = match pairs.remainder() {
+        [] => 0,
+        word => word_at(word, 0),
+    };
+    folded(hash ^ last, OTHER_MULTIPLIER)
+}
+
 #[inline(always)]
 pub fn hash_of_key(key: u128) -> u64 {
     folded(
         key as u64 ^ MULTIPLIER,
-        (key >> 64) as u64 ^ 0x8EBC_6AF0_9C88_C6E3,
+        (key >> 64) as u64 ^ OTHER_MULTIPLIER,
     )
 }
 
