@@ -21,7 +21,6 @@ use gb_values::slot_order::SlotOrder;
 use std::alloc::{AllocError, Global};
 
 /// A named column of any flat type.
-#[derive(Drop)]
 pub enum FlatSeries {
     Null(NullChunked),
     Boolean(BooleanChunked),
@@ -201,6 +200,14 @@ macro_rules! append_as {
             _ => unreachable!(),
         }
     };
+}
+
+// With an impl of its own a series is let go of by a call. With a derive each function that lets go of one
+// does so by its variants, and pays for each in its check.
+impl Drop for FlatSeries {
+    fn drop(self) {
+        of_column!(self, column => drop(column))
+    }
 }
 
 impl SeriesTrait for FlatSeries {
