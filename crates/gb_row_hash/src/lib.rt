@@ -9,6 +9,4 @@ pub mod frames_hash;
 pub mod hash_values;
 pub mod logical_hash;
 pub mod series_hash;
-#[cfg(test)]
-mod tests;
 pub mod vec_hash;

@@ -15,7 +15,5 @@ mod row_cells;
 mod row_lengths;
 mod row_nulls;
 pub mod rows_encoded;
-#[cfg(test)]
-mod tests;
 pub mod unordered;
 pub mod vertical;

@@ -1,13 +1,5 @@
 //! Worked rows of flat columns.
 
-use crate::context::{RowEncodingContext, get_row_encoding_context};
-use crate::rows_encoded::RowsEncoded;
-use crate::unordered::{
-    _get_rows_encoded_ca_unordered, _get_rows_encoded_unordered, encode_rows_unordered,
-};
-use crate::vertical::{
-    encode_rows_vertical_par_unordered, encode_rows_vertical_par_unordered_broadcast_nulls,
-};
 use gb_base::data_type::{CategoricalOrdering, DataType};
 use gb_base::error::{PolarsError, PolarsResult};
 use gb_base::field::Field;
@@ -23,6 +15,14 @@ use gb_cols::primitive::{
 use gb_cols::series_trait::SeriesTrait;
 use gb_logical::categorical::CategoricalChunked;
 use gb_logical::logical::{DateChunked, DecimalChunked};
+use gb_rows::context::{RowEncodingContext, get_row_encoding_context};
+use gb_rows::rows_encoded::RowsEncoded;
+use gb_rows::unordered::{
+    _get_rows_encoded_ca_unordered, _get_rows_encoded_unordered, encode_rows_unordered,
+};
+use gb_rows::vertical::{
+    encode_rows_vertical_par_unordered, encode_rows_vertical_par_unordered_broadcast_nulls,
+};
 use gb_series::frame::DataFrame;
 use gb_series::into_series::IntoSeries;
 use gb_series::series::Series;
@@ -54,7 +54,7 @@ fn cells_are(column: &Series, wanted: &[&[u8]]) -> bool {
     }
 }
 
-#[tactic(auto, using(crate::proofs::LengthLemmas::one_length))]
+#[tactic(auto, using(gb_rows::proofs::LengthLemmas::one_length))]
 fn rows_of(column: &Series) -> PolarsResult<RowsEncoded> {
     _get_rows_encoded_unordered(column.allocator(), slice::from_ref(column))
 }
@@ -273,18 +273,18 @@ fn are_slots(rows: &BinaryOffsetChunked, wanted: &[Option<&[u8]>]) -> bool {
     true
 }
 
-#[tactic(auto, using(crate::proofs::LengthLemmas::one_length))]
+#[tactic(auto, using(gb_rows::proofs::LengthLemmas::one_length))]
 fn in_one_chunk(column: &Series) -> PolarsResult<BinaryOffsetChunked> {
     encode_rows_unordered(column.allocator(), slice::from_ref(column))
 }
 
-#[tactic(auto, using(crate::proofs::LengthLemmas::one_length))]
+#[tactic(auto, using(gb_rows::proofs::LengthLemmas::one_length))]
 fn with_a_name(column: &Series) -> PolarsResult<BinaryOffsetChunked> {
     let alloc = column.allocator();
     _get_rows_encoded_ca_unordered(alloc, name(alloc)?, slice::from_ref(column))
 }
 
-#[tactic(auto, using(crate::proofs::LengthLemmas::one_length))]
+#[tactic(auto, using(gb_rows::proofs::LengthLemmas::one_length))]
 fn by_workers<T: Threads + Sync>(
     rt: &T,
     column: &Series,
@@ -293,7 +293,7 @@ fn by_workers<T: Threads + Sync>(
     encode_rows_vertical_par_unordered(rt, column.allocator(), &[column], pool)
 }
 
-#[tactic(auto, using(crate::proofs::LengthLemmas::one_length))]
+#[tactic(auto, using(gb_rows::proofs::LengthLemmas::one_length))]
 fn broadcast<T: Threads + Sync>(
     rt: &T,
     column: &Series,
@@ -364,7 +364,7 @@ fn flag_key(alloc: Global) -> PolarsResult<Series> {
     Ok(BooleanChunked::from_slice_options(alloc, name(alloc)?, &values)?.into_series())
 }
 
-#[tactic(auto, using(crate::proofs::LengthLemmas::two_lengths))]
+#[tactic(auto, using(gb_rows::proofs::LengthLemmas::two_lengths))]
 fn two_by_workers<T: Threads + Sync>(
     rt: &T,
     first: &Series,
@@ -377,7 +377,7 @@ fn two_by_workers<T: Threads + Sync>(
     encode_rows_vertical_par_unordered(rt, first.allocator(), &[first, second], pool)
 }
 
-#[tactic(auto, using(crate::proofs::LengthLemmas::two_lengths))]
+#[tactic(auto, using(gb_rows::proofs::LengthLemmas::two_lengths))]
 fn two_broadcast<T: Threads + Sync>(
     rt: &T,
     first: &Series,

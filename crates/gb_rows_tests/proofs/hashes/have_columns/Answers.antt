@@ -2,7 +2,7 @@ use Rattle.std.proofs.Common.{◌<◌, ◌≤◌, All, arith, length, subst}
 use Rattle.std.proofs.lemmas.List.{take_all}
 use Rattle.std.proofs.lemmas.List.Elements.{All-more}
 use Rattle.gb_defs.specs.Column.{Frame}
-use Rattle.gb_row_hash.proofs.tests.have_columns.Goals as goal
+use Rattle.gb_rows_tests.proofs.hashes.have_columns.Goals as goal
 
 pub loop-frame-preserved : goal.loop-frame-preserved
 loop-frame-preserved c =

@@ -1,5 +1,5 @@
 use Rattle.std.proofs.Common.{◌<◌, All, length, take}
-use Rattle.gb_row_hash.proofs.tests.have_columns.Given as goal
+use Rattle.gb_rows_tests.proofs.hashes.have_columns.Given as goal
 
 -- the frames so far have columns
 abbrev pub invariant-loop-frame : goal.invariant-loop-frame

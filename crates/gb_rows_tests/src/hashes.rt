@@ -4,10 +4,6 @@
 
 ghost use Rattle.std.specs.Prelude.{◌≡◌, ◌<◌, true, All, length, if◌then◌else◌};
 
-use crate::byte_hash::_hash_binary_array;
-use crate::frames_hash::_df_rows_to_hashes_threaded_vertical;
-use crate::series_hash::columns_to_hashes;
-use crate::vec_hash::VecHash;
 use gb_base::data_type::DataType;
 use gb_base::error::{Operation, PolarsError, PolarsResult};
 use gb_base::small_str::PlSmallStr;
@@ -19,6 +15,10 @@ use gb_cols::primitive::{Int32Chunked, UInt64Chunked};
 use gb_cols::series_trait::SeriesTrait;
 use gb_hash::dirty_hash::Mixer;
 use gb_logical::logical::DateChunked;
+use gb_row_hash::byte_hash::_hash_binary_array;
+use gb_row_hash::frames_hash::_df_rows_to_hashes_threaded_vertical;
+use gb_row_hash::series_hash::columns_to_hashes;
+use gb_row_hash::vec_hash::VecHash;
 use gb_series::frame::DataFrame;
 use gb_series::into_series::IntoSeries;
 use gb_series::nested::list::ListChunked;
