@@ -10,8 +10,8 @@ ghost use Rattle.gb_base.specs.PlSmallStr.{IsNoMemory, name_of};
 use crate::error::PolarsResult;
 use crate::small_str::PlSmallStr;
 use gb_table::text_table::TextTable;
-use indexmap::IndexSet;
 use std::alloc::Global;
+use std::collections::HashSet;
 use std::marker::Model;
 
 /// The distinct texts of a category column. The code of a text is its place.
@@ -124,6 +124,6 @@ pub fn texts_differ(alloc: Global, texts: &[PlSmallStr]) -> PolarsResult<bool>
         IfOk result (λ differ. IsTrue differ ↔ IsDistinct bytes_eq texts) }
     ensures err { IfErr result IsNoMemory }
 {
-    let distinct: IndexSet<&PlSmallStr> = IndexSet::from_iter(alloc, texts)?;
+    let distinct: HashSet<&PlSmallStr> = texts.iter().collect(alloc)?;
     Ok(distinct.len() == texts.len())
 }

@@ -7,6 +7,6 @@ use Rattle.gb_base.proofs.rev_mapping.texts_differ.Goals as goal
 pub returns-clause-ok : goal.returns-clause-ok
 returns-clause-ok c =
     let ran = c.in_ok-distinct.ensures.ran in
-    let all = items_from_drains ran.1 ran.3 (YieldsList-from_slice c.args.texts.now ran.2.0) in
+    let all = items_from_drains ran.0 ran.1 (YieldsList-from_slice c.args.texts.now c.iter.ensures.rest) in
     rw c.len.ensures.len
-    (subst (λ (names : List PlSmallStr). CountTells (length c.in_ok-distinct.distinct.keys) names) all (names_counted ran.1 c.in_ok-distinct.distinct ran.4.1))
+    (subst (λ (names : List PlSmallStr). CountTells (length c.in_ok-distinct.distinct.keys) names) all (names_counted ran.0 c.in_ok-distinct.distinct ran.2))
