@@ -1,4 +1,5 @@
 pub mod CellLemmas
+pub mod CodeLemmas
 pub mod ChunkedLemmas
 pub mod CopyLemmas
 pub mod KeptLemmas

@@ -6,6 +6,7 @@ pub mod binary;
 pub mod boolean;
 pub mod bytes;
 pub mod chunked;
+pub mod codes;
 pub mod null;
 pub mod primitive;
 pub mod series_trait;

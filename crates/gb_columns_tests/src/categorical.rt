@@ -5,10 +5,11 @@ use gb_base::error::{PolarsError, PolarsResult};
 use gb_base::rev_mapping::{RevMapping, texts_differ};
 use gb_base::small_str::PlSmallStr;
 use gb_cols::chunked::StringChunked;
+use gb_cols::codes::codes_in_range;
 use gb_cols::primitive::UInt32Chunked;
 use gb_cols::series_trait::SeriesTrait;
+use gb_logical::categorical::CategoricalChunked;
 use gb_logical::categorical::builder::CategoricalBuilder;
-use gb_logical::categorical::{CategoricalChunked, codes_in_range};
 use std::alloc::Global;
 use std::sync::Arc;
 use std::test::Fail;
@@ -129,7 +130,7 @@ fn is_coded(column: &CategoricalChunked) -> PolarsResult<bool> {
     Ok(
         words.as_slice() == [Some(0), None, Some(1), Some(0)].as_slice()
             && column._can_fast_unique()
-            && column.check_all_used()?
+            && column.check_all_used()
             && column.uses_lexical_ordering()
             && !column.is_enum(),
     )
@@ -185,7 +186,7 @@ fn enumerated(alloc: Global) -> PolarsResult<CategoricalChunked> {
 // Notes that every code occurs, where it does.
 fn noted(column: &mut CategoricalChunked) -> PolarsResult<bool> {
     let before = column._can_fast_unique();
-    if column.check_all_used()? {
+    if column.check_all_used() {
         column.set_all_used();
     }
     Ok(!before && column._can_fast_unique())

@@ -10,7 +10,8 @@ use Rattle.gb_defs.specs.ColumnType.{CategoricalOrdering, Lexical, Categorical, 
 use Rattle.gb_defs.specs.Order.{ByText, OrderMode, below, numbers_below, parts_below}
 use Rattle.gb_defs.specs.Slot.{Slot, Slots, Nil, Num, Bytes, Items, End, And, slot_at, slot_eq}
 use Rattle.gb_logical.proofs.CategoryLemmas.{has_texts}
-use Rattle.gb_logical.specs.Categorical.{IsCodeBelow, coded_as}
+use Rattle.gb_cols.specs.Codes.{IsCodeBelow}
+use Rattle.gb_logical.specs.Categorical.{coded_as}
 use Rattle.gb_logical.specs.Logical.{StandsFor}
 use Rattle.gb_values.proofs.SlotOrderLemmas.{bytes_compare, no_parts}
 use Rattle.gb_compare.specs.Layout.{ComparesLike}

@@ -3,7 +3,8 @@ use Rattle.std.specs.Prelude.{◌≡◌, Bool, true, false, ◌==◌, length}
 use Rattle.std.specs.List.{All, list_any}
 use Rattle.gb_defs.specs.Column.{ColumnValue}
 use Rattle.gb_defs.specs.Slot.{Slot, is_nil}
-use Rattle.gb_logical.specs.Categorical.{IsCodeBelow, coded_as}
+use Rattle.gb_cols.specs.Codes.{IsCodeBelow}
+use Rattle.gb_logical.specs.Categorical.{coded_as}
 use Rattle.gb_flat_series.specs.FlatSeries.{IsFlat}
 use Rattle.gb_flat_series.specs.declared.series.FlatSeries.TheVariants as flat
 use Rattle.gb_series.specs.Series.{value_of}

@@ -2,7 +2,7 @@
 
 ghost use Rattle.std.specs.Prelude.{◌≡◌, length, pos};
 ghost use Rattle.gb_values.specs.Array.{native_slot, text_slot};
-ghost use Rattle.gb_logical.specs.Categorical.{IsCodeBelow};
+ghost use Rattle.gb_cols.specs.Codes.{IsCodeBelow};
 ghost use Rattle.gb_compare.specs.Layout.{ComparesLike, HasTexts, local_column};
 ghost use Rattle.gb_compare.specs.Placed.{text_in};
 

@@ -22,5 +22,6 @@ pub mod Table
 pub mod Text
 pub mod Request
 pub mod Outcome
+pub mod Notes
 pub mod Worked
 pub mod Slow

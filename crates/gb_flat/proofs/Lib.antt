@@ -1,3 +1,5 @@
+pub mod CleanLemmas
 pub mod FillLemmas
 pub mod OffsetLemmas
+pub mod RangeLemmas
 pub mod ShareLemmas

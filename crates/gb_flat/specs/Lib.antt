@@ -1,3 +1,4 @@
 pub mod Buffers
+pub mod Clean
 pub mod Nullable
 pub mod Shares

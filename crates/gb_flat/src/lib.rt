@@ -2,6 +2,7 @@
 //! is dealt out by ranges.
 #![tactic(auto)]
 
+pub mod clean;
 mod fill;
 pub mod flatten;
 pub mod nullable;

@@ -1,4 +1,6 @@
+pub mod FirstLemmas
 pub mod ItemLemmas
+pub mod NumberLemmas
 pub mod OrderLemmas
 pub mod PartLemmas
 pub mod SliceLemmas

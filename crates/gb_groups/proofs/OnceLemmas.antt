@@ -7,7 +7,7 @@ use Rattle.std.specs.List.Sorted.{IsNonDecreasingBy}
 use Rattle.gb_defs.specs.Groups.{first_of}
 use Rattle.gb_groups.specs.Order.{OrderIsOne}
 
-abbrev tied : ℕ → ℕ → Bool
+abbrev pub tied : ℕ → ℕ → Bool
 tied a b = not (is_lt (nat_cmp a b)) && not (is_lt (nat_cmp b a))
 
 tied_same : (a b : ℕ) → a ≡ b → tied a b ≡ true

@@ -9,3 +9,4 @@ pub mod groups_type;
 mod items;
 pub mod iter;
 pub mod order;
+pub mod row_lists;

@@ -7,6 +7,7 @@ use gb_base::error::PolarsResult;
 use gb_base::nullable_idx::NullableIdxSize;
 use gb_base::pool::Pool;
 use gb_cols::series_trait::SeriesTrait;
+use gb_flat::clean::create_clean_partitions;
 use gb_flat::flatten::flatten_par;
 use gb_flat::nullable::flatten_nullable;
 use gb_flat::shares::{cap_and_offsets, join_shares, map_shares, split_offsets};
@@ -106,6 +107,31 @@ fn shares_are_joined_in_order(rt: HostRuntime) -> Result<(), Fail> {
         assert_eq!(rt; made.len(), workers);
         let all = join_shares(alloc, made)?;
         assert_eq!(rt; all.as_slice(), [0, 1, 2, 3, 4, 5, 6, 7, 8, 9].as_slice());
+    }
+    Ok(())
+}
+
+#[test]
+fn runs_stay_whole(rt: HostRuntime) -> Result<(), Fail> {
+    let all: [(&[u64], usize, &[(usize, usize)]); 10] = [
+        (&[1, 1, 1, 2, 2], 2, &[(0, 3), (3, 2)]),
+        (&[], 3, &[]),
+        (&[7], 1, &[(0, 1)]),
+        (&[5, 5, 5, 5, 5, 5, 5, 5], 4, &[(0, 8)]),
+        (&[1, 2, 3, 4, 5, 6, 7], 3, &[(0, 2), (2, 2), (4, 3)]),
+        (&[1, 2, 3], 9, &[(0, 1), (1, 1), (2, 1)]),
+        (&[1, 1, 2], 9, &[(0, 2), (2, 1)]),
+        (&[3, 1, 3], 1, &[(0, 3)]),
+        (
+            &[1, 2, 2, 2, 2, 2, 2, 3, 3, 4],
+            5,
+            &[(0, 7), (7, 2), (9, 1)],
+        ),
+        (&[1, 2, 2, 2, 1, 1, 9, 9], 4, &[(0, 4), (4, 2), (6, 2)]),
+    ];
+    for (values, n, wanted) in all {
+        let parts = create_clean_partitions(rt.alloc(), values, n)?;
+        assert_eq!(rt; parts.as_slice(), wanted, "{values:?} in {n}");
     }
     Ok(())
 }

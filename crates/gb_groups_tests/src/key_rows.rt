@@ -1,5 +1,6 @@
 ghost use Rattle.std.specs.Prelude.{◌≡◌, ◌<◌};
 
+use crate::paths::texts;
 use gb_base::error::PolarsResult;
 use gb_base::small_str::PlSmallStr;
 use gb_cols::chunked::StringChunked;
@@ -61,20 +62,27 @@ fn push_texts<'a>(texts: &mut TextChunks<'a>, column: &'a StringChunked) -> Pola
     Ok(())
 }
 
-fn chunks_read(alloc: Global) -> PolarsResult<bool> {
-    let mut first = StringChunked::new(alloc, PlSmallStr::from_str(alloc, "t")?);
-    first.push(Some("eight by"))?;
-    let empty = StringChunked::new(alloc, PlSmallStr::from_str(alloc, "t")?);
-    let mut last = StringChunked::new(alloc, PlSmallStr::from_str(alloc, "t")?);
-    last.push(Some("a"))?;
-    last.push(Some("eight by"))?;
-    let mut texts = TextChunks::new(alloc);
-    push_texts(&mut texts, &first)?;
-    push_texts(&mut texts, &empty)?;
-    push_texts(&mut texts, &last)?;
+// Whether the chunks of three columns are rows of texts, of which the second has none.
+fn chunks_read(
+    alloc: Global,
+    first: &StringChunked,
+    empty: &StringChunked,
+    last: &StringChunked,
+) -> PolarsResult<bool> {
+    let mut chunks = TextChunks::new(alloc);
+    push_texts(&mut chunks, first)?;
+    push_texts(&mut chunks, empty)?;
+    push_texts(&mut chunks, last)?;
     let keys = ["eight by".as_bytes(), "a".as_bytes(), "eight by".as_bytes()];
-    let rows = TextRows::new(&texts, mixer());
+    let rows = TextRows::new(&chunks, mixer());
     Ok(reads_once(&rows, &keys, &[EIGHT_BY, LETTER_A, EIGHT_BY]))
+}
+
+fn columns_read(alloc: Global) -> PolarsResult<bool> {
+    let first = texts(alloc, &[Some("eight by")])?;
+    let empty = texts(alloc, &[])?;
+    let last = texts(alloc, &[Some("a"), Some("eight by")])?;
+    chunks_read(alloc, &first, &empty, &last)
 }
 
 fn slices_read() -> bool {
@@ -114,7 +122,7 @@ fn bytes_read() -> bool {
 fn rows_of_columns(rt: HostRuntime) -> Result<(), Fail> {
     assert!(rt; numbers_read(rt.alloc())?);
     assert!(rt; texts_read(rt.alloc())?);
-    assert!(rt; chunks_read(rt.alloc())?);
+    assert!(rt; columns_read(rt.alloc())?);
     Ok(())
 }
 

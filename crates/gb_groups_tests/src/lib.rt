@@ -9,4 +9,6 @@ mod hash;
 #[cfg(test)]
 mod key_rows;
 #[cfg(test)]
+mod orders;
+#[cfg(test)]
 mod paths;

@@ -96,7 +96,7 @@ fn numbers(alloc: Global, values: &[Option<i64>]) -> PolarsResult<Int64Chunked>
     Ok(Int64Chunked::from_slice_options(alloc, name, values)?)
 }
 
-fn texts(alloc: Global, values: &[Option<&str>]) -> PolarsResult<StringChunked>
+pub(crate) fn texts(alloc: Global, values: &[Option<&str>]) -> PolarsResult<StringChunked>
     requires { HasRowNumbers (length values.now) }
     ensures len { IfOk result (λ c. length c.slots ≡ length values.now) }
     ensures typed { IfOk result (λ c. c.dtype ≡ Flat String) }

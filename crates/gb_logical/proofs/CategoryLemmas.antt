@@ -6,7 +6,8 @@ use Rattle.std.proofs.lemmas.List.Elements.{All-drop, All-get_or, All-map, All-t
 use Rattle.gb_defs.specs.Column.{ColumnValue, categories_of, sliced, taken}
 use Rattle.gb_defs.specs.ColumnType.{CategoricalOrdering, ColumnType, Flat, ListOf, ArrayOf, StructOf, Null, Boolean, Unsigned, Signed, Decimal, Date, Time, Datetime, Duration, String, Binary, BinaryOffset, Categorical, Enum}
 use Rattle.gb_defs.specs.Slot.{Nil, slot_at}
-use Rattle.gb_logical.specs.Categorical.{AreCodesOf, IsCodeBelow, category_type}
+use Rattle.gb_cols.specs.Codes.{IsCodeBelow}
+use Rattle.gb_logical.specs.Categorical.{AreCodesOf, category_type}
 use Rattle.gb_logical.proofs.LogicalLemmas.{OrdersAs}
 
 pub categories_are : (texts : List (List ℕ)) (ordering : CategoricalOrdering) (is_enum : Bool) → categories_of (Flat (category_type is_enum texts ordering)) ≡ Some texts

@@ -14,7 +14,8 @@ use Rattle.gb_defs.specs.ColumnType.{CategoricalOrdering, Categorical, Flat, Fit
 use Rattle.gb_defs.specs.Slot.{Slot, Slots, End, And, Nil, Num, Bytes, Items, slot_eq}
 use Rattle.gb_defs.specs.Table.{category_column, coded_slot, texts_after, texts_in, with_text}
 use Rattle.gb_logical.specs.CategoricalBuilder.{AreCoded}
-use Rattle.gb_logical.specs.Categorical.{IsCodeBelow, category_type, coded_as}
+use Rattle.gb_cols.specs.Codes.{IsCodeBelow}
+use Rattle.gb_logical.specs.Categorical.{category_type, coded_as}
 use Rattle.gb_table.proofs.TextLemmas.{position_pushed}
 
 -- ---- places

@@ -2,4 +2,3 @@ pub mod BuilderLemmas
 pub mod CategoryLemmas
 pub mod CodingLemmas
 pub mod LogicalLemmas
-pub mod MarkLemmas

@@ -7,7 +7,8 @@ ghost use Rattle.gb_defs.specs.ColumnType.{Flat, uint32};
 ghost use Rattle.gb_defs.specs.Slot.{Nil, slot_at};
 ghost use Rattle.gb_defs.specs.Table.{category_column};
 ghost use Rattle.gb_values.specs.Array.{native_slot};
-ghost use Rattle.gb_logical.specs.Categorical.{IsCodeBelow, category_type, coded_as, is_enum_type, is_lexical_type};
+ghost use Rattle.gb_cols.specs.Codes.{IsCodeBelow};
+ghost use Rattle.gb_logical.specs.Categorical.{category_type, coded_as, is_enum_type, is_lexical_type};
 ghost use Rattle.gb_base.specs.DataType.{ordering_of};
 ghost use Rattle.gb_base.specs.PlSmallStr.{IsNoMemory, name_of};
 
@@ -15,14 +16,13 @@ pub mod builder;
 mod codes;
 
 use builder::CategoricalBuilder;
-pub use codes::codes_in_range;
-use codes::{all_marked, marks_of};
 use gb_base::data_type::{CategoricalOrdering, DataType, IsSorted};
 use gb_base::error::PolarsResult;
 use gb_base::nullable_idx::IdxSize;
 use gb_base::rev_mapping::RevMapping;
 use gb_base::small_str::PlSmallStr;
 use gb_cols::chunked::StringChunked;
+use gb_cols::codes::codes_used;
 use gb_cols::primitive::UInt32Chunked;
 use gb_cols::series_trait::SeriesTrait;
 use gb_cols::undo_append::UndoAppend;
@@ -159,13 +159,11 @@ impl CategoricalChunked {
         self.all_used
     }
 
-    /// Whether every code occurs. One pass over the codes.
-    pub fn check_all_used(&self) -> PolarsResult<bool>
-        ensures ok { IfOk result (λ all. IsTrue all ↔ UsesAll self.now.dtype self.now.slots) }
-        ensures err { IfErr result IsNoMemory }
+    /// Whether every code occurs. One pass over the codes for each 16,384 texts; it takes no memory.
+    pub fn check_all_used(&self) -> bool
+        ensures { IsTrue result ↔ UsesAll self.now.dtype self.now.slots }
     {
-        let marks = marks_of(&self.physical, self.map.len())?;
-        Ok(all_marked(&marks))
+        codes_used(&self.physical, self.map.len())
     }
 
     /// Notes that every code occurs.

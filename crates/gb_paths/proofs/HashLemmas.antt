@@ -9,7 +9,7 @@ use Rattle.gb_defs.specs.Classes.{rows_below}
 use Rattle.gb_defs.specs.Rows.{Rows, AreHashes}
 use Rattle.gb_paths.specs.Hashes.{AreChunks, chunk_at, chunks_from, hash_in, hashes_below, hashes_in, items_of}
 use Rattle.gb_paths.specs.Partitions.{share_of}
-use Rattle.gb_paths.proofs.NumberLemmas.{map_range_same}
+use Rattle.gb_groups.proofs.NumberLemmas.{map_range_same}
 
 pub hashes_long : (hash : ℕ → ℕ) (start n : ℕ) (hashes : List ℕ) → hashes ≡ map hash (range_with_len start n) → length hashes ≡ n
 hashes_long hash start n hashes e = ap length e ∙ length-map (range_with_len start n) hash ∙ length-range_with_len start n

@@ -24,9 +24,9 @@ use Rattle.gb_hash.specs.Keys.{key_slots}
 use Rattle.gb_series.specs.Variant.{type_variant}
 use Rattle.gb_paths.specs.Keys.{HasNoValues, StandFor, hashed_slot, key_rows}
 use Rattle.gb_paths.specs.PlainWords.{ArePlain}
-use Rattle.gb_paths.specs.declared.into_groups.Keys.{Keys}
-use Rattle.gb_paths.specs.declared.into_groups.Keys.TheVariants.{Plain, Words, PlainCodes, Wide}
-use Rattle.gb_paths.specs.declared.into_groups.Keys.TheVariants as keys
+use Rattle.gb_paths.specs.declared.keys.Keys.{Keys}
+use Rattle.gb_paths.specs.declared.keys.Keys.TheVariants.{Plain, Words, PlainCodes, Wide}
+use Rattle.gb_paths.specs.declared.keys.Keys.TheVariants as keys
 
 -- rows that stand for rows that stand for others
 pub stood_by : (a b c : Rows) → StandsFor a b → StandsFor b c → StandsFor a c

@@ -16,8 +16,9 @@ use Rattle.gb_defs.specs.Slot.{Slot, slot_eq}
 use Rattle.gb_defs.proofs.ClassesLemmas.{IsGrouped, groups_from, grouped_none, grouped_old, grouped_new, place_at, place_none_from}
 use Rattle.gb_defs.proofs.SlotLemmas.{slot_eq_equiv, slot_eq_from_Decides}
 use Rattle.gb_table.specs.Table.{IsAdded, IsKnown, IsNumbered}
-use Rattle.gb_paths.specs.Numbers.{lists_by, pairs_by}
-use Rattle.gb_paths.proofs.NumberLemmas.{lists_old, lists_new}
+use Rattle.gb_groups.specs.Numbers.{lists_by}
+use Rattle.gb_paths.specs.Numbers.{pairs_by}
+use Rattle.gb_groups.proofs.NumberLemmas.{lists_old, lists_new}
 
 ascending : (rows : List ℕ) → IsStrictlyIncreasing rows → IsNonDecreasing rows
 ascending rows up i j d le lt = elim (cases_order i j) [

@@ -1,10 +1,11 @@
+pub mod ChoiceLemmas
 pub mod FormLemmas
 pub mod HashLemmas
 pub mod JoinLemmas
 pub mod KeyFormLemmas
 pub mod KeyLemmas
 pub mod MemberLemmas
-pub mod NumberLemmas
+pub mod OrderLemmas
 pub mod PartitionLemmas
 pub mod PlainWordLemmas
 pub mod RowBytesLemmas

@@ -13,11 +13,11 @@ use Rattle.gb_defs.specs.Groups.{AreMembers}
 use Rattle.gb_defs.specs.Hash.{partition_of}
 use Rattle.gb_defs.specs.Partitions.{in_partition}
 use Rattle.gb_defs.proofs.ClassesLemmas.{rows_below_all}
-use Rattle.gb_paths.specs.Numbers.{count_of, counts_by, lists_by, rows_of}
+use Rattle.gb_groups.specs.Numbers.{count_of, counts_by, lists_by, rows_of}
 use Rattle.gb_paths.specs.Partitions.{AreWithin, partitions_by, rows_by_partition}
 use Rattle.smallvec.specs.SmallVec.{SmallVec}
 use Rattle.gb_groups.specs.Groups.{lists_of}
-use Rattle.gb_paths.proofs.NumberLemmas.{count_more, map_range_same, rows_by}
+use Rattle.gb_groups.proofs.NumberLemmas.{count_more, map_range_same, rows_by}
 
 pub all_members : (n : ℕ) → AreMembers n (rows_below n)
 all_members n = record {
@@ -28,13 +28,6 @@ all_members n = record {
       let next : k + 1 < n = omega (arith, within, long) in
       rw (get_or-range_with_len 0 n k 0 here, get_or-range_with_len 0 n (k + 1) 0 next) (omega arith);
 }
-
--- all rows, read by their places
-pub all_at : (n place : ℕ) → place < length (rows_below n) → (place < n) × (place ≡ get_or (rows_below n) place 0)
-all_at n place lt =
-    let low : place < n = omega (arith, lt, length-range_with_len 0 n) in
-    let same : place ≡ 0 + place = omega arith in
-    (low, same ∙ sym (get_or-range_with_len 0 n place 0 low))
 
 pub member_inside : (n : ℕ) (rows : List ℕ) (place row : ℕ) → AreMembers n rows → place < length rows → row ≡ get_or rows place 0 → row < n
 member_inside n rows place row m lt is = rw is (m.below place 0 lt)

@@ -17,7 +17,8 @@ use Rattle.gb_defs.proofs.ClassesLemmas.{firsts_ascend}
 use Rattle.gb_defs.proofs.PartitionLemmas.{map_flat_map, partitions_united, picked_once}
 use Rattle.gb_groups.specs.Groups.{pairs_of}
 use Rattle.gb_groups.specs.Order.{IsByFirst}
-use Rattle.gb_groups.proofs.OnceLemmas.{once}
+use Rattle.gb_groups.proofs.FirstLemmas.{grouped_by_first, tied_one}
+use Rattle.gb_groups.proofs.OnceLemmas.{tied}
 use Rattle.gb_paths.specs.Partitions.{rows_by_partition}
 
 -- ---- united
@@ -43,47 +44,14 @@ module _ (agree : ℕ → ℕ → Bool) (hash : ℕ → ℕ) (n count : ℕ) whe
 
 -- ---- in the order of first rows
 
-abbrev tied : ℕ → ℕ → Bool
-tied a b = not (is_lt (nat_cmp a b)) && not (is_lt (nat_cmp b a))
-
-tied_one : (k x : ℕ) → tied k x ≡ true → x ≡ k
-tied_one k x e = grind (arith, nat_tests)
-
-module _ (f : ℕ → List ℕ) where
-  abbrev with_rows : ℕ → ℕ × List ℕ
-  with_rows i = (i, f i)
-
-  tied_pairs : (k : ℕ) (xs : List ℕ) → filter (λ y. tied k (first_of y)) (map with_rows xs) ≡ map with_rows (filter (tied k) xs)
-  tied_pairs k [] = refl
-  tied_pairs k (x ∷ xs) = elim (cases_Bool (tied k x)) [ inl e ↦ rw (e, tied_pairs k xs) | inr e ↦ rw (e, tied_pairs k xs) ]
-
-  pairs_ascend : (xs : List ℕ) → IsNonDecreasing xs → IsNonDecreasingBy first_of (map with_rows xs)
-  pairs_ascend xs up i j d le lt =
-      let inside : j < length xs = omega (arith, lt, length-map xs with_rows) in
-      let low : i < length xs = omega (arith, le, inside) in
-      rw (get_or-map with_rows xs i 0 d low, get_or-map with_rows xs j 0 d inside) (up i j 0 le inside)
-
 -- the groups of partitions are in the order of their first rows the groups of all rows
-united_sorted : (agree : ℕ → ℕ → Bool) (hash : ℕ → ℕ) (n count : ℕ) (after : List (ℕ × List ℕ)) → AllByRecursion (λ i. partition_of (hash i) n < n) (rows_below count) →
-    IsByFirst (partition_groups agree hash n (rows_below count)) after → after ≡ groups agree (rows_below count)
-unfolding partition_groups groups firsts
-united_sorted agree hash n count after within sorted =
+pub by_first_rows : (agree : ℕ → ℕ → Bool) (hash : ℕ → ℕ) (n count : ℕ) (before after : Grouping) → AllByRecursion (λ i. partition_of (hash i) n < n) (rows_below count) →
+    before ≡ idx_groups (partition_groups agree hash n (rows_below count)) false → IsByFirst before.pairs after.pairs → after.flagged ≡ true → after.form ≡ before.form →
+    after ≡ idx_groups (groups agree (rows_below count)) true
+unfolding partition_groups firsts
+by_first_rows agree hash n count before after within made sorted flagged form =
     let rows = rows_below count in
     let first = firsts agree rows in
     let within_first : AllByRecursion (λ i. partition_of (hash i) n < n) first =
     recursion_from_All (λ i. partition_of (hash i) n < n) _ (All-filter (is_first agree rows) (λ i. partition_of (hash i) n < n) rows (All-from_recursion (λ i. partition_of (hash i) n < n) rows within)) in
-    once first_of after (map (with_rows (class agree rows)) first) (IsNonDecreasingBy-from_sort first_of after sorted.sorted) (pairs_ascend (class agree rows) first (firsts_ascend agree count)) (λ pair.
-    sorted.stable pair
-    ∙ tied_pairs (class agree rows) pair.0 (by_partition hash n first)
-    ∙ ap (map (with_rows (class agree rows))) (picked_once (tied pair.0) pair.0 (tied_one pair.0) hash n first within_first)
-    ∙ sym (tied_pairs (class agree rows) pair.0 first))
-
-pub by_first_rows : (agree : ℕ → ℕ → Bool) (hash : ℕ → ℕ) (n count : ℕ) (before after : Grouping) → AllByRecursion (λ i. partition_of (hash i) n < n) (rows_below count) →
-    before ≡ idx_groups (partition_groups agree hash n (rows_below count)) false → IsByFirst before.pairs after.pairs → after.flagged ≡ true → after.form ≡ before.form →
-    after ≡ idx_groups (groups agree (rows_below count)) true
-by_first_rows agree hash n count before after within made sorted flagged form =
-    let pairs = united_sorted agree hash n count after.pairs within (rw (ap (λ g. g.pairs) made) at sorted) in
-    let form_is : after.form ≡ Idx = form ∙ ap (λ g. g.form) made in
-    ap (λ ps. record { pairs = ps; form = after.form; flagged = after.flagged }) pairs
-    ∙ ap (λ f. record { pairs = groups agree (rows_below count); form = f; flagged = after.flagged }) form_is
-    ∙ ap (λ b. record { pairs = groups agree (rows_below count); form = Idx; flagged = b }) flagged
+    grouped_by_first agree count (by_partition hash n first) (λ k. picked_once (tied k) k (tied_one k) hash n first within_first) false before after made sorted flagged form

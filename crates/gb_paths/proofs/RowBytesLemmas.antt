@@ -13,7 +13,7 @@ use Rattle.gb_defs.proofs.AnswerLemmas.{agree_one}
 use Rattle.gb_rows.specs.Rows.{row_slots}
 use Rattle.gb_rows.specs.Told.{AreToldByRows}
 use Rattle.gb_paths.specs.Keys.{StandFor, hashed_slot}
-use Rattle.gb_paths.specs.declared.into_groups.Keys.TheVariants.{RowBytes}
+use Rattle.gb_paths.specs.declared.keys.Keys.TheVariants.{RowBytes}
 use Rattle.gb_paths.proofs.KeyFormLemmas.{parts_rows, parts_width}
 
 pub row_at : (keys : Frame) (i : ℕ) → i < frame_height keys → slot_at (row_slots keys) i ≡ Bytes (row_bytes keys i)

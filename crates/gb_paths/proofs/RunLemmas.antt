@@ -1,5 +1,5 @@
 -- Rows without values are one run.
-use Rattle.std.proofs.Common.{◌≡◌, ℕ, zero, suc, ◌+◌, ◌<◌, ◌≤◌, Bool, true, false, not, ◌&&◌, List, [], ◌∷◌, length, map, filter, replicate, refl, sym, ◌∙◌, ap, arith, nat_lt, subst}
+use Rattle.std.proofs.Common.{◌≡◌, ℕ, zero, suc, ◌+◌, ◌<◌, ◌≤◌, Bool, true, false, not, ◌&&◌, List, [], ◌∷◌, length, map, filter, replicate, refl, sym, ◌∙◌, ap, ap₂, All, arith, nat_lt, subst}
 use Rattle.std.specs.List.{list_any, range_with_len}
 use Rattle.std.proofs.lemmas.Bool.{le-ltb, lt-ltb}
 use Rattle.std.proofs.lemmas.List.{length-replicate}
@@ -7,15 +7,17 @@ use Rattle.gb_defs.specs.Classes.{class, firsts, groups, is_first, rows_below}
 use Rattle.gb_defs.specs.Column.{ColumnValue}
 use Rattle.gb_defs.specs.Groups.{Grouping, IsWellFormed, Slice}
 use Rattle.gb_defs.specs.Hash.{seed_mix}
-use Rattle.gb_defs.specs.Path.{KeyKind, Nulls, code_count, path_by_kind, path_groups, run_groups, unflagged}
+use Rattle.gb_defs.specs.ColumnType.{ColumnType, Flat, ListOf, ArrayOf, StructOf, Fits, Null, Boolean, Unsigned, Signed, Decimal, Date, Time, Datetime, Duration, String, Binary, BinaryOffset, Categorical, Enum}
+use Rattle.gb_defs.specs.Path.{NoValues, Nulls, kind_of, run_groups}
 use Rattle.gb_defs.specs.Rows.{rows_of_slots, same_slot_at}
-use Rattle.gb_defs.specs.Slot.{Nil, slot_at}
+use Rattle.gb_defs.specs.Slot.{Slot, Nil, Num, Bytes, Items, slot_at}
 use Rattle.std.specs.Int.{w64}
-use Rattle.gb_base.specs.Pool.{partitions_of, seed_of, threshold_of, workers_of}
 use Rattle.gb_base.specs.declared.pool.Pool.{Pool}
 use Rattle.gb_groups.specs.Slices.{slice_groups, slice_pairs}
-use Rattle.gb_paths.specs.Keys.{HasNoValues, key_rows, null_rows}
-use Rattle.gb_paths.specs.Tuples.{tuples_of}
+use Rattle.gb_cols.specs.Null.{AreNulls}
+use Rattle.gb_values.proofs.SlotOrderLemmas.{no_parts}
+use Rattle.gb_paths.specs.Keys.{null_rows}
+use Rattle.gb_paths.specs.Tuples.{tuples_on}
 use Rattle.gb_paths.proofs.FormLemmas.{path_formed}
 
 pub null_at : (n i : ℕ) → slot_at (replicate n Nil) i ≡ Nil
@@ -58,11 +60,35 @@ one_run (suc n) some =
     ap (λ ps. record { pairs = ps; form = Slice false; flagged = true }) (sym pairs)
 
 -- the run of a column without values
-pub stood_run : (column : ColumnValue) (multithreaded sorted : Bool) (pool : Pool) → HasNoValues column →
-    run_groups (null_rows (length column.slots)) ≡ tuples_of column multithreaded sorted pool
-stood_run column multithreaded sorted pool none =
-    let grouped : KeyKind → _ = λ kind. path_groups (path_by_kind kind (unflagged column) multithreaded (workers_of pool) (threshold_of pool)) (key_rows (seed_of pool) column) (code_count column.dtype) (partitions_of pool) sorted in
-    ap (λ slots. run_groups (rows_of_slots w64 0 seed_mix slots)) (sym none.nulls) ∙ ap grouped (sym none.kind)
+pub stood_run : (column : ColumnValue) (sorted : Bool) (pool : Pool) → AreNulls column.slots → run_groups (null_rows (length column.slots)) ≡ tuples_on Nulls column sorted pool
+stood_run column sorted pool nulls = ap (λ slots. run_groups (rows_of_slots w64 0 seed_mix slots)) (sym nulls)
+
+-- slots of a type without values are nulls
+slot_null : (t : ColumnType) (slot : Slot) → kind_of t ≡ NoValues → Fits t slot → slot ≡ Nil
+slot_null (Flat Null) Nil is fits = refl
+slot_null (Flat Null) (Num n) is fits = absurd fits
+slot_null (Flat Null) (Bytes bytes) is fits = absurd fits
+slot_null (Flat Null) (Items parts) is fits = absurd (no_parts Null 0 parts fits)
+slot_null (Flat Boolean) slot is fits = cc
+slot_null (Flat (Unsigned w)) slot is fits = cc
+slot_null (Flat (Signed w)) slot is fits = cc
+slot_null (Flat (Decimal precision scale)) slot is fits = cc
+slot_null (Flat Date) slot is fits = cc
+slot_null (Flat Time) slot is fits = cc
+slot_null (Flat (Datetime unit)) slot is fits = cc
+slot_null (Flat (Duration unit)) slot is fits = cc
+slot_null (Flat String) slot is fits = cc
+slot_null (Flat Binary) slot is fits = cc
+slot_null (Flat BinaryOffset) slot is fits = cc
+slot_null (Flat (Categorical texts ordering)) slot is fits = cc
+slot_null (Flat (Enum texts ordering)) slot is fits = cc
+slot_null (ListOf t) slot is fits = cc
+slot_null (ArrayOf t width) slot is fits = cc
+slot_null (StructOf fs) slot is fits = cc
+
+pub slots_null : (t : ColumnType) (slots : List Slot) → kind_of t ≡ NoValues → All (Fits t) slots → AreNulls slots
+slots_null t [] is fits = refl
+slots_null t (slot ∷ slots) is fits = ap₂ (λ s ss. s ∷ ss) (slot_null t slot is (fits 0 Nil (omega arith))) (slots_null t slots is (λ k d lt. fits (suc k) d (omega (arith, lt))))
 
 -- what is the run of so many rows is well formed
 pub run_formed : (n : ℕ) (runs : List (List ℕ)) → slice_groups runs false ≡ run_groups (null_rows n) → IsWellFormed n (slice_pairs runs)

@@ -30,7 +30,8 @@ use Rattle.gb_rows.specs.Lent.{keys_in}
 use Rattle.gb_rows.specs.Rows.{AreOfOneLength, row_slots}
 use Rattle.gb_rows.specs.Told.{AreToldByRows}
 use Rattle.gb_paths.specs.Keys.{null_rows}
-use Rattle.gb_paths.specs.Tuples.{IsNullUnlessValued, all_path, has_values, is_valued, path_by_keys, rows_of_all, slots_at, slots_of, tuples_by, tuples_of, tuples_of_bytes, valued_keys}
+use Rattle.gb_defs.specs.Notes.{has_values, is_valued, path_by_keys, valued_keys}
+use Rattle.gb_paths.specs.Tuples.{IsNullUnlessValued, all_path, rows_of_all, slots_at, slots_of, tuples_by, tuples_of, tuples_of_bytes}
 use Rattle.gb_paths.proofs.KeyFormLemmas.{parts_by_variant}
 use Rattle.gb_paths.proofs.RowBytesLemmas.{row_at, rows_many}
 use Rattle.gb_paths.proofs.RunLemmas.{null_at}
@@ -183,7 +184,7 @@ several [] multithreaded sorted pool many = refl
 several (key ∷ []) multithreaded sorted pool many = absurd (omega (arith, many))
 several (key ∷ other ∷ keys) multithreaded sorted pool many = refl
 
-some_path : (keys : Frame) (rows : ℕ) (multithreaded : Bool) (workers threshold : ℕ) → 0 < length keys → path_by_keys keys rows multithreaded workers threshold ≡ path.hashed_path true rows multithreaded workers threshold
+pub some_path : (keys : Frame) (rows : ℕ) (multithreaded : Bool) (workers threshold : ℕ) → 0 < length keys → path_by_keys keys rows multithreaded workers threshold ≡ path.hashed_path true rows multithreaded workers threshold
 some_path [] rows multithreaded workers threshold some = absurd (omega (arith, some))
 some_path (key ∷ keys) rows multithreaded workers threshold some = refl
 
@@ -211,6 +212,11 @@ module _ (keys : Frame) (many : 1 < length keys) (aligned : AreOfOneLength keys)
 pub both_ok : {A E : Type 0} (r : Result A E) (P : A → Type 0) (Q : Type 0) → IfOk r P → OnOk r Q → IfOk r (λ x. P x × Q)
 both_ok (Ok x) P Q p q = (p, q)
 both_ok (Err e) P Q p q = tt
+
+-- two facts of one value
+pub also_ok : {A E : Type 0} (r : Result A E) (P Q : A → Type 0) → IfOk r P → IfOk r Q → IfOk r (λ x. P x × Q x)
+also_ok (Ok x) P Q p q = (p, q)
+also_ok (Err e) P Q p q = tt
 
 -- ---- lent keys
 

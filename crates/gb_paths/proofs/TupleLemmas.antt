@@ -1,22 +1,22 @@
 -- Groups in the order of their first rows, whatever the path.
-use Rattle.std.proofs.Common.{◌≡◌, ◌==◌, ◌&&◌, ℕ, pos, Bool, true, false, List, [], ◌∷◌, filter, length, refl, sym, ◌∙◌, ap}
+use Rattle.std.proofs.Common.{◌≡◌, ℕ, ◌<◌, pos, Bool, true, false, List, [], ◌∷◌, filter, length, refl, sym, ◌∙◌, ap, arith}
 use Rattle.std.specs.List.{flat_map, range_with_len}
-use Rattle.std.proofs.lemmas.Bool.{eqb-true}
 use Rattle.gb_defs.specs.Column.{ColumnValue}
 use Rattle.gb_defs.specs.Classes.{firsts, groups, rows_below, same_slot}
 use Rattle.gb_defs.specs.Groups.{idx_groups}
 use Rattle.gb_defs.specs.Slot.{Slot, Num, slot_eq}
 use Rattle.gb_defs.specs.Rows.{Rows, StandsFor, same_slot_at}
-use Rattle.gb_defs.specs.Path.{Path, Nulls, Sorted, Perfect, Table, Threaded, code_count, hashed_path, path_groups, perfect_pairs}
+use Rattle.gb_defs.specs.Path.{Path, Nulls, Sorted, Perfect, Table, Threaded, code_count, path_groups, perfect_pairs}
 use Rattle.gb_defs.proofs.PathLemmas.{path_groups_alike}
-use Rattle.gb_base.specs.Pool.{partitions_of, seed_of, threshold_of, workers_of}
+use Rattle.gb_base.specs.Pool.{partitions_of, seed_of}
 use Rattle.gb_base.specs.declared.pool.Pool.{Pool}
-use Rattle.gb_paths.specs.Keys.{StandFor, are_bytes, are_codes, key_rows, rows_of_keys}
-use Rattle.gb_paths.specs.Tuples.{column_path, path_value, tuples_of}
-use Rattle.gb_paths.specs.declared.into_groups.Keys.{Keys}
-use Rattle.gb_paths.specs.declared.into_groups.Keys.TheVariants.{Plain, Words, PlainCodes, Codes, Wide, Texts, Bytes, RowBytes}
-use Rattle.gb_paths.specs.declared.into_groups.Path as declared
-use Rattle.gb_paths.specs.declared.into_groups.Path.TheVariants as way
+use Rattle.gb_runs.specs.Codes.{rows_in}
+use Rattle.gb_runs.specs.Runs.{AreTogether, StandTogether}
+use Rattle.gb_paths.specs.Keys.{AreCodesOf, StandFor, key_rows, rows_of_keys}
+use Rattle.gb_paths.specs.Tuples.{column_path, key_path_value, tuples_of, tuples_on}
+use Rattle.gb_paths.specs.declared.keys.Keys.{Keys}
+use Rattle.gb_paths.specs.declared.path.KeyPath.{KeyPath}
+use Rattle.gb_paths.specs.declared.path.KeyPath.TheVariants as keyed
 
 pub sorted_path : (path : Path) (rows : Rows) (codes n : ℕ) → (path_groups path rows codes n true).pairs ≡ groups (same_slot_at rows.slot) (rows_below rows.count)
 sorted_path Nulls rows codes n = refl
@@ -28,32 +28,30 @@ sorted_path Threaded rows codes n = refl
 pub sorted_tuples : (column : ColumnValue) (multithreaded : Bool) (pool : Pool) → (tuples_of column multithreaded true pool).pairs ≡ groups (same_slot column.slots) (rows_below (length column.slots))
 sorted_tuples column multithreaded pool = sorted_path (column_path column multithreaded pool) (key_rows (seed_of pool) column) (code_count column.dtype) (partitions_of pool)
 
--- rows that stand for others have their groups by one table and by partitions, however many codes there are
-stood_groups : (path : declared.Path) (own rows : Rows) → StandsFor own rows → (codes n : ℕ) (sorted : Bool) →
-    path_groups (path_value path) rows 0 n sorted ≡ path_groups (path_value path) own codes n sorted
-stood_groups way.Table own rows stand codes n sorted = sym (path_groups_alike own rows stand codes n Table sorted tt)
-stood_groups way.Threaded own rows stand codes n sorted = sym (path_groups_alike own rows stand codes n Threaded sorted tt)
+-- rows that stand for others have their groups by their keys, however many codes there are
+stood_groups : (path : KeyPath) (own rows : Rows) → StandsFor own rows → (codes n : ℕ) (sorted : Bool) →
+    path_groups (key_path_value path) rows 0 n sorted ≡ path_groups (key_path_value path) own codes n sorted
+stood_groups keyed.Runs own rows stand codes n sorted = sym (path_groups_alike own rows stand codes n Sorted sorted tt)
+stood_groups keyed.Table own rows stand codes n sorted = sym (path_groups_alike own rows stand codes n Table sorted tt)
+stood_groups keyed.Threaded own rows stand codes n sorted = sym (path_groups_alike own rows stand codes n Threaded sorted tt)
 
--- the path of keys is that of the column for which they stand, but for codes of no rows
-stood_path : (column : ColumnValue) (keys : Keys) (multithreaded : Bool) (pool : Pool) → StandFor column keys → (are_codes keys && (length column.slots == 0)) ≡ false →
-    hashed_path (are_bytes keys) (length column.slots) multithreaded (workers_of pool) (threshold_of pool) ≡ column_path column multithreaded pool
-stood_path column (Plain words) multithreaded pool stand some = rw stand.kind refl
-stood_path column (Words words) multithreaded pool stand some = rw stand.kind refl
-stood_path column (PlainCodes codes) multithreaded pool stand some = rw (stand.kind, some) refl
-stood_path column (Codes codes) multithreaded pool stand some = rw (stand.kind, some) refl
-stood_path column (Wide words) multithreaded pool stand some = rw stand.kind refl
-stood_path column (Texts texts) multithreaded pool stand some = rw stand.kind refl
-stood_path column (Bytes bytes) multithreaded pool stand some = rw stand.kind refl
-stood_path column (RowBytes bytes) multithreaded pool stand some = rw stand.kind refl
-
-pub tuples_stand : (column : ColumnValue) (keys : Keys) (multithreaded sorted : Bool) (pool : Pool) (path : declared.Path) → StandFor column keys → (are_codes keys && (length column.slots == 0)) ≡ false →
-    path_value path ≡ hashed_path (are_bytes keys) (length column.slots) multithreaded (workers_of pool) (threshold_of pool) →
-    path_groups (path_value path) (rows_of_keys (seed_of pool) keys) 0 (partitions_of pool) sorted ≡ tuples_of column multithreaded sorted pool
-tuples_stand column keys multithreaded sorted pool path stand some chosen =
+pub keys_grouped : (column : ColumnValue) (keys : Keys) (path : KeyPath) (sorted : Bool) (pool : Pool) → StandFor column keys →
+    path_groups (key_path_value path) (rows_of_keys (seed_of pool) keys) 0 (partitions_of pool) sorted ≡ tuples_on (key_path_value path) column sorted pool
+keys_grouped column keys path sorted pool stand =
     stood_groups path (key_rows (seed_of pool) column) (rows_of_keys (seed_of pool) keys) (stand.rows (seed_of pool)) (code_count column.dtype) (partitions_of pool) sorted
-    ∙ ap (λ p. path_groups p (key_rows (seed_of pool) column) (code_count column.dtype) (partitions_of pool) sorted) (chosen ∙ stood_path column keys multithreaded pool stand some)
 
--- ---- codes of no rows
+-- and they stand together where the slots do
+pub keys_together : (column : ColumnValue) (keys : Keys) (seed : ℕ) → StandFor column keys → AreTogether column.slots → StandTogether (rows_of_keys seed keys)
+keys_together column keys seed stand together =
+    let rows = stand.rows seed in record {
+      between =
+          λ i j k low high inside same.
+          let within : k < length column.slots = rw (← rows.many) inside in
+          let near = together.between i j k low high within (rows.agree i k (omega (arith, low, high, within)) within ∙ same) in
+          sym (rows.agree i j (omega (arith, low, high, within)) (omega (arith, high, within))) ∙ near;
+    }
+
+-- ---- codes
 
 none_coded : (slot : ℕ → Slot) (codes : List ℕ) → flat_map (λ code. filter (λ i. slot_eq (slot i) (Num (pos code))) []) codes ≡ []
 none_coded slot [] = refl
@@ -64,18 +62,14 @@ unfolding groups firsts
 none_perfect rows codes true none = rw none refl
 none_perfect rows codes false none = rw (none, none_coded rows.slot (range_with_len 0 codes)) refl
 
--- they have no groups, which are in order
-pub no_tuples : (column : ColumnValue) (keys : Keys) (multithreaded sorted : Bool) (pool : Pool) → StandFor column keys → (are_codes keys && (length column.slots == 0)) ≡ true →
-    idx_groups [] true ≡ tuples_of column multithreaded sorted pool
-no_tuples column (Plain words) multithreaded sorted pool stand none = cc
-no_tuples column (Words words) multithreaded sorted pool stand none = cc
-no_tuples column (PlainCodes codes) multithreaded sorted pool stand none =
-    let pairs = none_perfect (key_rows (seed_of pool) column) (code_count column.dtype) sorted (eqb-true (length column.slots) 0 none) in
-    rw (stand.kind, none, pairs) refl
-no_tuples column (Codes codes) multithreaded sorted pool stand none =
-    let pairs = none_perfect (key_rows (seed_of pool) column) (code_count column.dtype) sorted (eqb-true (length column.slots) 0 none) in
-    rw (stand.kind, none, pairs) refl
-no_tuples column (Wide words) multithreaded sorted pool stand none = cc
-no_tuples column (Texts texts) multithreaded sorted pool stand none = cc
-no_tuples column (Bytes bytes) multithreaded sorted pool stand none = cc
-no_tuples column (RowBytes bytes) multithreaded sorted pool stand none = cc
+-- no rows have no groups, which are in order
+pub no_tuples : (column : ColumnValue) (sorted : Bool) (pool : Pool) → length column.slots ≡ 0 → idx_groups [] true ≡ tuples_on Perfect column sorted pool
+no_tuples column sorted pool none =
+    let pairs = none_perfect (key_rows (seed_of pool) column) (code_count column.dtype) sorted none in
+    rw pairs refl
+
+-- the groups of codes are those of the column that they are of
+pub code_tuples : (column codes : ColumnValue) (count : ℕ) (sorted : Bool) (pool : Pool) → AreCodesOf column codes count →
+    path_groups Perfect (rows_in codes.slots) count 0 sorted ≡ tuples_on Perfect column sorted pool
+code_tuples column codes count sorted pool are =
+    ap (λ slots. path_groups Perfect (rows_in slots) count 0 sorted) are.slots ∙ ap (λ n. path_groups Perfect (rows_in column.slots) n 0 sorted) (sym are.texts)

@@ -1,10 +1,10 @@
 -- Keys in one of their forms, and what they say of a column.
-use Rattle.std.specs.Prelude.{◌≡◌, ℕ, pos, Bool, true, false, List, [], ◌∷◌, length, map, replicate}
+use Rattle.std.specs.Prelude.{◌≡◌, ◌≢◌, ℕ, pos, List, [], ◌∷◌, length, map, replicate}
 use Rattle.std.specs.Int.{w64, w128}
 use Rattle.gb_defs.specs.Column.{ColumnValue}
 use Rattle.gb_defs.specs.ColumnType.{ColumnType, Flat}
 use Rattle.gb_defs.specs.Hash.{hash_of, hash_width, seed_mix}
-use Rattle.gb_defs.specs.Path.{KeyKind, NoValues, Numbers, ByteLists, Parts, kind_of}
+use Rattle.gb_defs.specs.Path.{NoValues, Numbers, ByteLists, Parts, kind_of}
 use Rattle.gb_defs.specs.Path as path
 use Rattle.gb_defs.specs.RowBytes.{row_bytes}
 use Rattle.gb_defs.specs.Rows.{Rows, StandsFor, rows_of_slots}
@@ -12,8 +12,10 @@ use Rattle.gb_defs.specs.Slot as slot
 use Rattle.gb_values.specs.Keys.{bytes_slot, key_slot}
 use Rattle.gb_cols.specs.Null.{AreNulls}
 use Rattle.gb_hash.specs.Keys.{key_slots}
-use Rattle.gb_paths.specs.declared.into_groups.Keys.{Keys}
-use Rattle.gb_paths.specs.declared.into_groups.Keys.TheVariants.{Plain, Words, PlainCodes, Codes, Wide, Texts, Bytes, RowBytes}
+use Rattle.gb_paths.specs.declared.keys.KeyKind.{KeyKind}
+use Rattle.gb_paths.specs.declared.keys.KeyKind.TheVariants as kind
+use Rattle.gb_paths.specs.declared.keys.Keys.{Keys}
+use Rattle.gb_paths.specs.declared.keys.Keys.TheVariants.{Plain, Words, PlainCodes, Codes, Wide, Texts, Bytes, RowBytes}
 
 -- the rows of keys, with their hashes under a seed
 abbrev pub rows_of_keys : ℕ → Keys → Rows
@@ -26,22 +28,7 @@ rows_of_keys seed (Texts texts) = rows_of_slots w64 seed seed_mix (map (λ t. sl
 rows_of_keys seed (Bytes bytes) = rows_of_slots w64 seed seed_mix (map bytes_slot bytes.items)
 rows_of_keys seed (RowBytes bytes) = rows_of_slots w64 seed seed_mix bytes.slots
 
-abbrev pub are_bytes : Keys → Bool
-are_bytes (Plain words) = false
-are_bytes (Words words) = false
-are_bytes (PlainCodes codes) = false
-are_bytes (Codes codes) = false
-are_bytes (Wide words) = false
-are_bytes (Texts texts) = true
-are_bytes (Bytes bytes) = true
-are_bytes (RowBytes bytes) = true
-
-abbrev pub are_codes : Keys → Bool
-are_codes (PlainCodes codes) = true
-are_codes (Codes codes) = true
-are_codes _ = false
-
-abbrev pub key_kind : Keys → KeyKind
+abbrev pub key_kind : Keys → path.KeyKind
 key_kind (Plain words) = Numbers
 key_kind (Words words) = Numbers
 key_kind (PlainCodes codes) = path.Codes
@@ -50,6 +37,23 @@ key_kind (Wide words) = Numbers
 key_kind (Texts texts) = ByteLists
 key_kind (Bytes bytes) = ByteLists
 key_kind (RowBytes bytes) = Parts
+
+-- what a kind of keys stands for in the definitions
+abbrev pub kind_value : KeyKind → path.KeyKind
+kind_value kind.NoValues = path.NoValues
+kind_value kind.Numbers = path.Numbers
+kind_value kind.Codes = path.Codes
+kind_value kind.ByteLists = path.ByteLists
+kind_value kind.Parts = path.Parts
+
+-- a column that is none of categories
+abbrev pub HasNoCodes : ColumnValue → Type 0
+HasNoCodes column = kind_of column.dtype ≢ path.Codes
+
+-- the codes of a column of categories, of so many texts
+pub record AreCodesOf (column codes : ColumnValue) (count : ℕ) : Type 0 where
+  pub slots : codes.slots ≡ column.slots
+  pub texts : path.code_count column.dtype ≡ count
 
 -- so many rows without a value
 abbrev pub null_rows : ℕ → Rows

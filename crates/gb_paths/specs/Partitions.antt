@@ -7,7 +7,8 @@ use Rattle.gb_defs.specs.Hash.{partition_of}
 use Rattle.gb_defs.specs.Partitions.{in_partition}
 use Rattle.gb_defs.specs.Rows.{Rows, AreHashes}
 use Rattle.gb_groups.specs.Groups.{lists_of, pairs_of}
-use Rattle.gb_paths.specs.Numbers.{groups_among, lists_by}
+use Rattle.gb_groups.specs.Numbers.{lists_by}
+use Rattle.gb_paths.specs.Numbers.{groups_among}
 
 -- the partition of each hash is one of the n
 abbrev pub AreWithin : ℕ → List ℕ → Type 0

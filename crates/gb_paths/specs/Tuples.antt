@@ -1,45 +1,72 @@
 -- The groups of the rows of a column, and of several columns.
-use Rattle.std.specs.Prelude.{◌≡◌, ℕ, Bool, true, false, List, [], ◌∷◌, length, map}
+use Rattle.std.specs.Prelude.{◌≡◌, ℕ, ◌==◌, ◌||◌, Bool, true, false, List, [], ◌∷◌, length, map, if◌then◌else◌}
 use Rattle.std.specs.Int.{w64}
-use Rattle.std.specs.List.{filter}
-use Rattle.gb_defs.specs.Column.{ColumnValue, Frame, frame_height}
+use Rattle.gb_defs.specs.Column.{ColumnValue, Frame, SortedFlag, frame_height}
 use Rattle.gb_defs.specs.Groups.{Grouping}
 use Rattle.gb_defs.specs.Hash.{hash_of, seed_mix}
 use Rattle.gb_defs.specs.RowBytes.{row_bytes}
 use Rattle.gb_defs.specs.Rows.{Rows, rows_of_slots}
 use Rattle.gb_defs.specs.Slot.{Slot, Bytes, Items, items_of, slot_at}
 use Rattle.gb_defs.specs.Path as path
+use Rattle.gb_defs.specs.Notes as notes
+use Rattle.gb_defs.specs.Notes.{AreDetected, detected, is_valued, keys_path, path_by_keys, valued_keys}
+use Rattle.gb_base.specs.Sorted.{flag_of}
 use Rattle.gb_cols.specs.Null.{AreNulls}
 use Rattle.gb_base.specs.Pool.{partitions_of, seed_of, threshold_of, workers_of}
 use Rattle.gb_base.specs.declared.pool.Pool.{Pool}
 use Rattle.gb_rows.specs.Rows.{row_slots}
 use Rattle.gb_paths.specs.Keys.{key_rows}
-use Rattle.gb_paths.specs.declared.into_groups.Path.{Path}
-use Rattle.gb_paths.specs.declared.into_groups.Path.TheVariants.{Table, Threaded}
+use Rattle.gb_paths.specs.declared.path.KeyOrder.{KeyOrder}
+use Rattle.gb_paths.specs.declared.path.KeyPath.{KeyPath}
+use Rattle.gb_paths.specs.declared.path.KeyPath.TheVariants as keyed
+use Rattle.gb_paths.specs.declared.path.Path.{Path}
+use Rattle.gb_paths.specs.declared.trace.Trace.{Trace}
+use Rattle.gb_paths.specs.declared.path.Path.TheVariants as way
 
 -- what a path stands for in the definitions
 abbrev pub path_value : Path → path.Path
-path_value Table = path.Table
-path_value Threaded = path.Threaded
+path_value way.Nulls = path.Nulls
+path_value way.Sorted = path.Sorted
+path_value way.Perfect = path.Perfect
+path_value way.Table = path.Table
+path_value way.Threaded = path.Threaded
 
--- the path of a column's rows; today no flag of it is looked at
+abbrev pub key_path_value : KeyPath → path.Path
+key_path_value keyed.Runs = path.Sorted
+key_path_value keyed.Table = path.Table
+key_path_value keyed.Threaded = path.Threaded
+
+-- what a trace stands for in the definitions
+abbrev pub trace_value : Trace → notes.Trace
+trace_value trace = record { path = path_value trace.path; groups = trace.groups; keys_read = trace.keys_read }
+
+-- a column as what is known of its slots has it: in an order, and in one chunk where it is seen so
+abbrev pub ordered : KeyOrder → ColumnValue → ColumnValue
+ordered order column = record column { sorted = flag_of order.sorted; chunks = if order.whole then length column.slots ∷ [] else column.chunks }
+
+-- the path of the rows of a kind of keys
+abbrev pub path_by : path.KeyKind → ColumnValue → Bool → Pool → path.Path
+path_by kind column multithreaded pool = path.path_by_kind kind column multithreaded (workers_of pool) (threshold_of pool)
+
+-- the path of a column's rows
 abbrev pub column_path : ColumnValue → Bool → Pool → path.Path
-column_path column multithreaded pool = path.path_of (path.unflagged column) multithreaded (workers_of pool) (threshold_of pool)
+column_path column multithreaded pool = path.path_of column multithreaded (workers_of pool) (threshold_of pool)
 
--- the rows that hold one slot, in the order and the form of the path
+-- the rows that hold one slot, in the order and the form of a path
+abbrev pub tuples_on : path.Path → ColumnValue → Bool → Pool → Grouping
+tuples_on on column sorted pool =
+    path.path_groups on (key_rows (seed_of pool) column) (path.code_count column.dtype) (partitions_of pool) sorted
+
+-- those of the column's path
 abbrev pub tuples_of : ColumnValue → Bool → Bool → Pool → Grouping
-tuples_of column multithreaded sorted pool =
-    path.path_groups (column_path column multithreaded pool) (key_rows (seed_of pool) column) (path.code_count column.dtype) (partitions_of pool) sorted
+tuples_of column multithreaded sorted pool = tuples_on (column_path column multithreaded pool) column sorted pool
+
+-- a column of categories that has no rows, or of which each code is held
+pub record IsPerfect (column : ColumnValue) : Type 0 where
+  pub kind : path.kind_of column.dtype ≡ path.Codes
+  pub used : ((length column.slots == 0) || column.all_used) ≡ true
 
 -- ---- several keys
-
-abbrev pub has_values : path.KeyKind → Bool
-has_values path.NoValues = false
-has_values _ = true
-
--- whether a key tells rows apart: one of the null type does not
-abbrev pub is_valued : ColumnValue → Bool
-is_valued key = has_values (path.kind_of key.dtype)
 
 -- a key that does not tell rows apart has nulls alone
 abbrev pub IsNullUnlessValued : ColumnValue → Type 0
@@ -47,9 +74,6 @@ IsNullUnlessValued key = is_valued key ≡ false → AreNulls key.slots
 
 abbrev pub slots_of : Frame → List (List Slot)
 slots_of keys = map (λ key. key.slots) keys
-
-abbrev pub valued_keys : Frame → Frame
-valued_keys keys = filter is_valued keys
 
 -- the slots of the keys at a row, as one
 abbrev pub slots_at : Frame → ℕ → Slot
@@ -62,11 +86,6 @@ rows_of_all seed keys = record {
   slot = slots_at keys;
   hash = λ row. hash_of w64 seed seed_mix (Bytes (row_bytes (valued_keys keys) row));
 }
-
--- by hashes as bytes are grouped; where no key has values all rows are one run
-abbrev pub path_by_keys : Frame → ℕ → Bool → ℕ → ℕ → path.Path
-path_by_keys [] rows multithreaded workers threshold = path.Nulls
-path_by_keys (key ∷ keys) rows multithreaded workers threshold = path.hashed_path true rows multithreaded workers threshold
 
 abbrev pub all_path : Frame → Bool → Pool → path.Path
 all_path keys multithreaded pool = path_by_keys (valued_keys keys) (frame_height keys) multithreaded (workers_of pool) (threshold_of pool)
@@ -81,3 +100,12 @@ tuples_by keys multithreaded sorted pool =
 abbrev pub tuples_of_bytes : Frame → Bool → Bool → Pool → Grouping
 tuples_of_bytes keys multithreaded sorted pool =
     path.path_groups (path.hashed_path true (frame_height keys) multithreaded (workers_of pool) (threshold_of pool)) (rows_of_slots w64 (seed_of pool) seed_mix (row_slots keys)) 0 (partitions_of pool) sorted
+
+-- ---- keys in the order that is found
+
+-- the groups of the rows of keys in the order that these are found to be in, and the path to them
+pub record AreFound (keys : Frame) (multithreaded sorted : Bool) (pool : Pool) (groups : Grouping) (on : path.Path) : Type 0 where
+  pub flag : SortedFlag
+  pub ordered : AreDetected flag keys
+  pub groups_are : groups ≡ tuples_by (detected flag keys) multithreaded sorted pool
+  pub path_is : on ≡ keys_path (detected flag keys) multithreaded (workers_of pool) (threshold_of pool)

@@ -1,10 +1,11 @@
 //! The groups of rows by several keys: rows that hold one slot in each. The keys are put into the bytes of
 //! rows, which are grouped as one column is.
 
-ghost use Rattle.std.specs.Prelude.{◌≡◌, ◌<◌, All, false, length, true, OnOk, IfOk, IfErr};
+ghost use Rattle.std.specs.Prelude.{◌≡◌, ◌∷◌, ◌<◌, [], All, false, length, true, OnOk, IfOk, IfErr};
 ghost use Rattle.gb_defs.specs.Classes.{agree_by, groups, rows_below};
 ghost use Rattle.gb_defs.specs.Column.{frame_height};
 ghost use Rattle.gb_defs.specs.Groups.{HasRowNumbers, IsWellFormed};
+ghost use Rattle.gb_defs.specs.Notes as notes;
 ghost use Rattle.gb_base.specs.PlSmallStr.{IsNoMemory};
 ghost use Rattle.gb_cols.specs.Null.{AreNulls};
 ghost use Rattle.gb_groups.specs.GroupsType.{groups_of};
@@ -13,10 +14,11 @@ ghost use Rattle.gb_series.specs.Series.{value_of};
 ghost use Rattle.gb_rows.specs.Lent.{keys_in};
 ghost use Rattle.gb_rows.specs.Rows.{AreOfOneLength};
 ghost use Rattle.gb_rows.specs.Told.{AreToldByRows};
-ghost use Rattle.gb_paths.specs.Tuples as tuples;
-ghost use Rattle.gb_paths.specs.Tuples.{IsNullUnlessValued, slots_of, tuples_by, tuples_of_bytes};
+ghost use Rattle.gb_paths.specs.Tuples.{AreFound, IsNullUnlessValued, all_path, path_value, slots_of, tuples_by, tuples_of_bytes};
 
-use crate::into_groups::{Keys, choose_path, group_keys, group_tuples_gated, one_run};
+use crate::into_groups::{group_column, group_keys, group_tuples_gated, one_run};
+use crate::keys::Keys;
+use crate::path::{KeyOrder, Path, choose_path, path_of};
 use gb_base::device::Gate;
 use gb_base::error::PolarsResult;
 use gb_base::pool::Pool;
@@ -55,10 +57,65 @@ pub fn group_by_keys<T: Threads + Sync, G: Gate + Sync>(
     if keys.len() == 1 {
         return group_tuples_gated(rt, keys[0], multithreaded, sorted, pool, gate);
     }
+    let (groups, _) = group_several(rt, keys, multithreaded, sorted, pool, gate)?;
+    Ok(groups)
+}
+
+/// The same, where one key alone is grouped by the order that it is found to be in, in however many chunks
+/// it lies, and the path to the groups. It looks at such a key once more, up to the first row that is out
+/// of order.
+pub fn group_by_detected<T: Threads + Sync, G: Gate + Sync>(
+    rt: &T,
+    keys: &[&Series],
+    multithreaded: bool,
+    sorted: bool,
+    pool: &Pool,
+    gate: &G,
+) -> PolarsResult<(GroupsType, Path)>
+    requires some { 0 < length keys.now }
+    requires aligned { AreOfOneLength (keys_in keys.now) }
+    requires few { HasRowNumbers (frame_height (keys_in keys.now)) }
+    ensures ok { IfOk result (λ made. AreFound (keys_in keys.now) multithreaded sorted pool.now
+        (groups_of made.0) (path_value made.1)) }
+    ensures classes { IfOk result (λ made. sorted ≡ true
+        → (groups_of made.0).pairs ≡ groups (agree_by (slots_of (keys_in keys.now)))
+        (rows_below (frame_height (keys_in keys.now)))) }
+    ensures formed { IfOk result (λ made.
+        IsWellFormed (frame_height (keys_in keys.now)) (groups_of made.0).pairs) }
+    ensures err { IfErr result IsNoMemory }
+{
+    if keys.len() == 1 {
+        return group_in_order(rt, keys[0], multithreaded, sorted, pool, gate);
+    }
     group_several(rt, keys, multithreaded, sorted, pool, gate)
 }
 
-// The same by several keys.
+// The groups of the rows of a key, by the order that it is found to be in, and the path to them.
+fn group_in_order<T: Threads + Sync, G: Gate + Sync>(
+    rt: &T,
+    key: &Series,
+    multithreaded: bool,
+    sorted: bool,
+    pool: &Pool,
+    gate: &G,
+) -> PolarsResult<(GroupsType, Path)>
+    requires few { HasRowNumbers (length (value_of key.now).slots) }
+    ensures ok { IfOk result (λ made. AreFound (value_of key.now ∷ []) multithreaded sorted
+        pool.now (groups_of made.0) (path_value made.1)) }
+    ensures formed { IfOk result (λ made.
+        IsWellFormed (length (value_of key.now).slots) (groups_of made.0).pairs) }
+    ensures err { IfErr result IsNoMemory }
+{
+    let order = KeyOrder {
+        sorted: key.detect_sorted(),
+        whole: true,
+    };
+    let path = path_of(key, order, multithreaded, pool);
+    let groups = group_column(rt, key, order, multithreaded, sorted, pool, gate)?;
+    Ok((groups, path))
+}
+
+// The groups of the rows of several keys, and the path to them.
 fn group_several<T: Threads + Sync, G: Gate + Sync>(
     rt: &T,
     keys: &[&Series],
@@ -66,28 +123,33 @@ fn group_several<T: Threads + Sync, G: Gate + Sync>(
     sorted: bool,
     pool: &Pool,
     gate: &G,
-) -> PolarsResult<GroupsType>
+) -> PolarsResult<(GroupsType, Path)>
     requires several { 1 < length keys.now }
     requires aligned { AreOfOneLength (keys_in keys.now) }
     requires few { HasRowNumbers (frame_height (keys_in keys.now)) }
-    ensures ok { IfOk result (λ g.
-        groups_of g ≡ tuples_by (keys_in keys.now) multithreaded sorted pool.now) }
-    ensures formed { IfOk result (λ g.
-        IsWellFormed (frame_height (keys_in keys.now)) (groups_of g).pairs) }
+    ensures ok { IfOk result (λ made.
+        groups_of made.0 ≡ tuples_by (keys_in keys.now) multithreaded sorted pool.now) }
+    ensures path { IfOk result (λ made.
+        path_value made.1 ≡ all_path (keys_in keys.now) multithreaded pool.now) }
+    ensures formed { IfOk result (λ made.
+        IsWellFormed (frame_height (keys_in keys.now)) (groups_of made.0).pairs) }
     ensures err { IfErr result IsNoMemory }
 {
     let alloc = keys[0].allocator();
     let valued = valued_keys(alloc, keys)?;
     if valued.is_empty() {
-        return one_run(alloc, keys[0].len());
+        let groups = one_run(alloc, keys[0].len())?;
+        return Ok((groups, Path::Nulls));
     }
-    group_row_bytes(rt, alloc, &valued, multithreaded, sorted, pool, gate)
+    let groups = group_row_bytes(rt, alloc, &valued, multithreaded, sorted, pool, gate)?;
+    let path = choose_path(true, keys[0].len(), multithreaded, pool);
+    Ok((groups, Path::from(path)))
 }
 
 // The keys that tell rows apart.
 fn valued_keys<'a>(alloc: Global, keys: &[&'a Series]) -> Result<Vec<&'a Series>, AllocError>
     ensures valued { IfOk result (λ some.
-        keys_in some.items ≡ tuples.valued_keys (keys_in keys.now)) }
+        keys_in some.items ≡ notes.valued_keys (keys_in keys.now)) }
     ensures nulls { OnOk result (All IsNullUnlessValued (keys_in keys.now)) }
 {
     let mut valued = Vec::with_capacity(alloc, keys.len())?;
@@ -102,7 +164,7 @@ fn valued_keys<'a>(alloc: Global, keys: &[&'a Series]) -> Result<Vec<&'a Series>
 // Whether a key tells rows apart. One of the null type does not.
 #[tactic(auto, using(crate::proofs::SeveralLemmas::parts_valued))]
 fn is_valued(key: &Series) -> bool
-    ensures value { result ≡ tuples.is_valued (value_of key.now) }
+    ensures value { result ≡ notes.is_valued (value_of key.now) }
     ensures nulls { result ≡ false → AreNulls (value_of key.now).slots }
 {
     key.tell_variant();
@@ -114,7 +176,7 @@ fn is_valued(key: &Series) -> bool
 
 #[tactic(auto, using(crate::proofs::SeveralLemmas::valued_by_variant))]
 fn is_valued_flat(column: &FlatSeries) -> bool
-    ensures value { result ≡ tuples.is_valued (column_of column.now) }
+    ensures value { result ≡ notes.is_valued (column_of column.now) }
     ensures nulls { result ≡ false → AreNulls (column_of column.now).slots }
 {
     column.tell_variant();

@@ -6,11 +6,12 @@ ghost use Rattle.gb_defs.specs.Rows.{table_groups};
 ghost use Rattle.gb_base.specs.PlSmallStr.{IsNoMemory};
 ghost use Rattle.gb_groups.specs.GroupsType.{groups_of};
 
-use crate::row_groups::{AllRows, group_members};
+use crate::row_groups::group_members;
 use crate::row_hashes::AskedHashes;
 use gb_base::error::PolarsResult;
 use gb_groups::groups_idx::GroupsIdx;
 use gb_groups::groups_type::GroupsType;
+use gb_groups::row_lists::AllRows;
 use gb_hash::key_rows::{KeyRows, Steps};
 use std::alloc::Global;
 use std::marker::Brand;

@@ -1,52 +1,44 @@
-//! The groups of a column's rows: the keys of its rows in one of a few forms, the path by its type and
-//! length, and the groups by them. Rows of a type without values are one run.
+//! The groups of a column's rows, by the path that its type, its flags and its length choose. Rows of a type
+//! without values are one run.
 
-ghost use Rattle.std.specs.Prelude.{◌≡◌, ◌<◌, [], None, Some, true, length, map, OnOk, IfOk, IfErr, IfSome, MatchOption};
+ghost use Rattle.std.specs.Prelude.{◌≡◌, ◌≢◌, ◌<◌, [], true, length, IfOk, IfErr};
 ghost use Rattle.std.specs.Thread.{IsSync};
+ghost use Rattle.gb_defs.specs.Column.{IsFlagTrue};
 ghost use Rattle.gb_defs.specs.Groups.{HasRowNumbers, IsWellFormed, idx_groups};
-ghost use Rattle.gb_defs.specs.Path.{Parts, hashed_path, kind_of, path_groups, run_groups};
-ghost use Rattle.gb_defs.specs.Slot as slot;
+ghost use Rattle.gb_defs.specs.Path.{NoValues, Perfect, kind_of, path_groups, run_groups};
 ghost use Rattle.gb_base.specs.PlSmallStr.{IsNoMemory};
-ghost use Rattle.gb_base.specs.Pool.{partitions_of, seed_of, threshold_of, workers_of};
+ghost use Rattle.gb_base.specs.Pool.{partitions_of, seed_of};
+ghost use Rattle.gb_base.specs.Sorted.{flag_of};
+ghost use Rattle.gb_base.specs.declared.pool.Pool.{Pool};
 ghost use Rattle.gb_groups.specs.GroupsType.{groups_of};
 ghost use Rattle.gb_series.specs.Series.{value_of};
-ghost use Rattle.gb_paths.specs.Keys.{HasNoValues, StandFor, are_bytes, are_codes, null_rows, rows_of_keys};
-ghost use Rattle.gb_paths.specs.Tuples.{path_value, tuples_of};
+ghost use Rattle.gb_runs.specs.Runs.{AreTogether, StandTogether};
+ghost use Rattle.gb_paths.specs.Keys.{null_rows, rows_of_keys};
+ghost use Rattle.gb_paths.specs.Tuples.{IsPerfect, key_path_value, ordered, tuples_of, tuples_on};
+ghost use Rattle.gb_paths.specs.declared.path.KeyPath.TheVariants.{Runs};
 
 use crate::group_by::group_uncounted;
-use crate::plain_words::plain_words;
+use crate::keys::{KeyColumn, Keys};
+use crate::path::{KeyOrder, KeyPath, Path, order_of, path_of};
 use crate::threaded::group_by_threaded_iter;
 use gb_base::device::Gate;
 use gb_base::error::PolarsResult;
 use gb_base::memory::FreeGate;
 use gb_base::nullable_idx::IdxSize;
 use gb_base::pool::Pool;
-use gb_cols::binary::BinaryOffsetChunked;
-use gb_cols::chunked::{ChunkedArray, StringChunked};
-use gb_cols::null::NullChunked;
 use gb_cols::series_trait::SeriesTrait;
-use gb_flat_series::of_column;
-use gb_flat_series::series::FlatSeries;
+use gb_cols::undo_append::UndoAppend;
 use gb_groups::groups_idx::GroupsIdx;
 use gb_groups::groups_slice::GroupsSlice;
 use gb_groups::groups_type::GroupsType;
 use gb_hash::dirty_hash::SeedMixer;
 use gb_hash::key_rows::KeyRows;
-use gb_hash::list_rows::{ListRows, TextChunks, TextRows};
+use gb_hash::list_rows::{ListRows, TextRows};
 use gb_hash::slice_rows::SliceRows;
-use gb_logical::categorical::CategoricalChunked;
-use gb_logical::logical::{Logical, LogicalKind};
-use gb_numbers::numeric::{Native, PolarsNumericType};
-use gb_rows::unordered::encode_rows_unordered;
+use gb_runs::codes::group_codes;
+use gb_runs::runs::group_runs;
 use gb_series::series::Series;
-use gb_values::binary::{Binary, BinaryOffset};
-use gb_values::boolean::FlagValues;
-use gb_values::bytes::ByteValues;
-use gb_values::nullable::Values;
-use gb_values::primitive::NumberValues;
-use gb_values::utf8::TextValues;
 use std::alloc::Global;
-use std::slice;
 use std::thread::Threads;
 
 /// What gives the groups of its rows.
@@ -77,7 +69,15 @@ impl<C: KeyColumn> IntoGroupsType for C {
         sorted: bool,
         pool: &Pool,
     ) -> PolarsResult<GroupsType> {
-        group_column(rt, self, multithreaded, sorted, pool, &FreeGate)
+        group_column(
+            rt,
+            self,
+            order_of(self),
+            multithreaded,
+            sorted,
+            pool,
+            &FreeGate,
+        )
     }
 }
 
@@ -97,257 +97,98 @@ pub fn group_tuples_gated<T: Threads + Sync, G: Gate + Sync>(
         IsWellFormed (length (value_of key.now).slots) (groups_of g).pairs) }
     ensures err { IfErr result IsNoMemory }
 {
-    group_column(rt, key, multithreaded, sorted, pool, gate)
+    group_column(rt, key, order_of(key), multithreaded, sorted, pool, gate)
 }
 
-/// A key for each row, in a form that no later loop looks a chunk up for. A null has none.
-#[derive(Drop)]
-pub enum Keys<'a> {
-    /// Numbers of at most 64 bits with their sign extended, none of them null.
-    Plain(Vec<u64>),
-    /// Such numbers, any of which may be null.
-    Words(Vec<Option<u64>>),
-    /// Codes of categories, none of them null.
-    PlainCodes(Vec<u64>),
-    /// Such codes, any of which may be null.
-    Codes(Vec<Option<u64>>),
-    /// Numbers of 128 bits.
-    Wide(Vec<Option<u128>>),
-    /// Texts as they lie, none of them null.
-    Texts(TextChunks<'a>),
-    /// Texts and other bytes.
-    Bytes(Vec<Option<&'a [u8]>>),
-    /// The bytes of rows, of slots that hold others or of several columns.
-    RowBytes(BinaryOffsetChunked),
-}
-
-impl<'a> Keys<'a> {
-    fn are_bytes(&self) -> bool
-        ensures { result ≡ are_bytes self.now }
-    {
-        match self {
-            Keys::Plain(_) => false,
-            Keys::Words(_) => false,
-            Keys::PlainCodes(_) => false,
-            Keys::Codes(_) => false,
-            Keys::Wide(_) => false,
-            Keys::Texts(_) => true,
-            Keys::Bytes(_) => true,
-            Keys::RowBytes(_) => true,
-        }
-    }
-
-    fn are_codes(&self) -> bool
-        ensures { result ≡ are_codes self.now }
-    {
-        match self {
-            Keys::Plain(_) => false,
-            Keys::Words(_) => false,
-            Keys::PlainCodes(_) => true,
-            Keys::Codes(_) => true,
-            Keys::Wide(_) => false,
-            Keys::Texts(_) => false,
-            Keys::Bytes(_) => false,
-            Keys::RowBytes(_) => false,
-        }
-    }
-}
-
-/// Values that the rows of a column have keys by.
-pub trait KeyValues: Values {
-    /// The keys of a column of such values, by one pass over its chunks. What stands before the first null
-    /// may be read twice.
-    fn keys_of(column: &ChunkedArray<Self>) -> PolarsResult<Keys<'_>>
-        ensures ok { IfOk result (λ keys. StandFor column.now keys) }
-        ensures err { IfErr result IsNoMemory };
-}
-
-impl<T: PolarsNumericType> KeyValues for NumberValues<T> {
-    fn keys_of(column: &ChunkedArray<NumberValues<T>>) -> PolarsResult<Keys<'_>> {
-        // The call tells the column's type.
-        let _ = column.allocator();
-        if T::Native::is_wide() {
-            return Ok(Keys::Wide(column.wide_words()?));
-        }
-        match plain_words(column)? {
-            Some(words) => Ok(Keys::Plain(words)),
-            None => Ok(Keys::Words(column.words()?)),
-        }
-    }
-}
-
-impl KeyValues for FlagValues {
-    fn keys_of(column: &ChunkedArray<FlagValues>) -> PolarsResult<Keys<'_>> {
-        let _ = column.allocator();
-        Ok(Keys::Words(column.words()?))
-    }
-}
-
-impl KeyValues for TextValues {
-    fn keys_of(column: &ChunkedArray<TextValues>) -> PolarsResult<Keys<'_>> {
-        let _ = column.allocator();
-        match text_chunks(column)? {
-            Some(texts) => Ok(Keys::Texts(texts)),
-            None => Ok(Keys::Bytes(column.byte_slices()?)),
-        }
-    }
-}
-
-// The texts of a column as they lie, where none is null.
-fn text_chunks(column: &StringChunked) -> PolarsResult<Option<TextChunks<'_>>>
-    ensures ok { IfOk result (λ found. IfSome found (λ texts.
-        map (λ text. slot.Bytes text) texts ≡ column.now.slots)) }
-    ensures err { IfErr result IsNoMemory }
-{
-    let mut texts = TextChunks::new(column.allocator());
-    let (earlier, last) = column.chunks();
-    for chunk in earlier {
-        let Some(values) = chunk.all_valid() else {
-            return Ok(None);
-        };
-        texts.push(values)?;
-    }
-    let Some(values) = last.all_valid() else {
-        return Ok(None);
-    };
-    texts.push(values)?;
-    Ok(Some(texts))
-}
-
-impl KeyValues for ByteValues<Binary> {
-    fn keys_of(column: &ChunkedArray<ByteValues<Binary>>) -> PolarsResult<Keys<'_>> {
-        let _ = column.allocator();
-        Ok(Keys::Bytes(column.byte_slices()?))
-    }
-}
-
-impl KeyValues for ByteValues<BinaryOffset> {
-    fn keys_of(column: &ChunkedArray<ByteValues<BinaryOffset>>) -> PolarsResult<Keys<'_>> {
-        let _ = column.allocator();
-        Ok(Keys::Bytes(column.byte_slices()?))
-    }
-}
-
-/// A column whose rows have keys.
-pub trait KeyColumn: SeriesTrait {
-    /// The keys, as `KeyValues` gives them: none where the column's type has no values.
-    fn keys(&self) -> PolarsResult<Option<Keys<'_>>>
-        ensures ok { let column = Self.value self.now in
-            IfOk result (λ keys. MatchOption keys (HasNoValues column) (StandFor column)) }
-        ensures err { IfErr result IsNoMemory };
-}
-
-impl<V: KeyValues> KeyColumn for ChunkedArray<V> {
-    fn keys(&self) -> PolarsResult<Option<Keys<'_>>> {
-        Ok(Some(V::keys_of(self)?))
-    }
-}
-
-impl<K: LogicalKind> KeyColumn for Logical<K> {
-    fn keys(&self) -> PolarsResult<Option<Keys<'_>>> {
-        // The call tells the column's type.
-        let _ = self.kind();
-        self.physical().keys()
-    }
-}
-
-impl KeyColumn for NullChunked {
-    fn keys(&self) -> PolarsResult<Option<Keys<'_>>> {
-        let _ = self.allocator();
-        Ok(None)
-    }
-}
-
-impl KeyColumn for CategoricalChunked {
-    fn keys(&self) -> PolarsResult<Option<Keys<'_>>> {
-        // The call tells the column's type.
-        let _ = self.get_rev_map();
-        let physical = self.physical();
-        match plain_words(physical)? {
-            Some(codes) => Ok(Some(Keys::PlainCodes(codes))),
-            None => Ok(Some(Keys::Codes(physical.words()?))),
-        }
-    }
-}
-
-impl KeyColumn for FlatSeries {
-    fn keys(&self) -> PolarsResult<Option<Keys<'_>>> {
-        of_column!(self, column => column.keys())
-    }
-}
-
-/// Rows of lists, arrays and structs have their bytes as keys.
-impl KeyColumn for Series {
-    #[tactic(auto, using(crate::proofs::KeyFormLemmas::parts_by_variant))]
-    fn keys(&self) -> PolarsResult<Option<Keys<'_>>> {
-        self.tell_variant();
-        match self {
-            Series::Flat(column) => column.keys(),
-            _ => Ok(Some(nested_keys(self)?)),
-        }
-    }
-}
-
-// The keys of a column of lists, arrays or structs.
-#[tactic(auto, using(crate::proofs::RowBytesLemmas::rows_stand_for))]
-fn nested_keys(key: &Series) -> PolarsResult<Keys<'_>>
-    requires { kind_of (value_of key.now).dtype ≡ Parts }
-    ensures ok { IfOk result (λ keys. StandFor (value_of key.now) keys) }
-    ensures err { IfErr result IsNoMemory }
-{
-    let rows = encode_rows_unordered(key.allocator(), slice::from_ref(key))?;
-    Ok(Keys::RowBytes(rows))
-}
-
-/// Which way rows are grouped.
-#[derive(Clone, Copy, Debug, PartialEq, Eq)]
-pub enum Path {
-    /// By one table.
-    Table,
-    /// By a table for each partition.
-    Threaded,
-}
-
-/// The path of so many keys of bytes, or of numbers: to start threads pays at many rows, or where keys
-/// are long.
-pub fn choose_path(by_bytes: bool, rows: usize, multithreaded: bool, pool: &Pool) -> Path
-    ensures { let workers = workers_of pool.now in
-        let threshold = threshold_of pool.now in
-        path_value result ≡ hashed_path by_bytes rows multithreaded workers threshold }
-{
-    if multithreaded && pool.workers() > 1 && (by_bytes || rows > pool.row_threshold()) {
-        Path::Threaded
-    } else {
-        Path::Table
-    }
-}
-
-/// The groups of a column's rows by the path of its type and length; each partition enters the gate with
-/// its number, and leaves it.
+/// The groups of a column's rows by the path of its type and length, where they stand in an order; each
+/// partition enters the gate with its number, and leaves it.
 pub fn group_column<T: Threads + Sync, C: KeyColumn, G: Gate + Sync>(
     rt: &T,
     column: &C,
+    order: KeyOrder,
     multithreaded: bool,
     sorted: bool,
     pool: &Pool,
     gate: &G,
 ) -> PolarsResult<GroupsType>
     requires few { HasRowNumbers (length (C.value column.now).slots) }
-    ensures ok { IfOk result (λ g.
-        groups_of g ≡ tuples_of (C.value column.now) multithreaded sorted pool.now) }
+    requires holds { let c = C.value column.now in
+        IsFlagTrue (flag_of order.sorted) c.dtype c.slots }
+    ensures ok { let key = ordered order (C.value column.now) in IfOk result (λ g.
+        groups_of g ≡ tuples_of key multithreaded sorted pool.now) }
     ensures formed { IfOk result (λ g.
         IsWellFormed (length (C.value column.now).slots) (groups_of g).pairs) }
     ensures err { IfErr result IsNoMemory }
 {
-    let alloc = column.allocator();
-    let Some(keys) = column.keys()? else {
-        return one_run(alloc, column.len());
-    };
-    if keys.are_codes() && column.is_empty() {
-        return Ok(no_groups(alloc));
+    let groups = group_on_path(rt, column, order, multithreaded, sorted, pool, gate)?;
+    Ok(groups)
+}
+
+// The same, whatever else holds of groups.
+fn group_on_path<T: Threads + Sync, C: KeyColumn, G: Gate + Sync>(
+    rt: &T,
+    column: &C,
+    order: KeyOrder,
+    multithreaded: bool,
+    sorted: bool,
+    pool: &Pool,
+    gate: &G,
+) -> PolarsResult<GroupsType>
+    requires few { HasRowNumbers (length (C.value column.now).slots) }
+    requires holds { let c = C.value column.now in
+        IsFlagTrue (flag_of order.sorted) c.dtype c.slots }
+    ensures ok { let key = ordered order (C.value column.now) in IfOk result (λ g.
+        groups_of g ≡ tuples_of key multithreaded sorted pool.now) }
+    ensures err { IfErr result IsNoMemory }
+{
+    match path_of(column, order, multithreaded, pool) {
+        Path::Nulls => one_run(column.allocator(), column.len()),
+        Path::Sorted => group_by_path(rt, column, KeyPath::Runs, sorted, pool, gate),
+        Path::Perfect => group_perfect(column, sorted),
+        Path::Table => group_by_path(rt, column, KeyPath::Table, sorted, pool, gate),
+        Path::Threaded => group_by_path(rt, column, KeyPath::Threaded, sorted, pool, gate),
     }
-    let path = choose_path(keys.are_bytes(), column.len(), multithreaded, pool);
-    group_keys(rt, alloc, &keys, path, sorted, pool, gate)
+}
+
+// The groups of a column's rows by their keys.
+fn group_by_path<T: Threads + Sync, C: KeyColumn, G: Gate + Sync>(
+    rt: &T,
+    column: &C,
+    path: KeyPath,
+    sorted: bool,
+    pool: &Pool,
+    gate: &G,
+) -> PolarsResult<GroupsType>
+    requires few { HasRowNumbers (length (C.value column.now).slots) }
+    requires keyed { kind_of (C.value column.now).dtype ≢ NoValues }
+    requires together { path ≡ Runs → AreTogether (C.value column.now).slots }
+    ensures ok { IfOk result (λ g. groups_of g
+        ≡ tuples_on (key_path_value path) (C.value column.now) sorted pool.now) }
+    ensures err { IfErr result IsNoMemory }
+{
+    match column.keys()? {
+        Some(keys) => group_keys(rt, column.allocator(), &keys, path, sorted, pool, gate),
+        None => unreachable!(),
+    }
+}
+
+// The groups of a column's rows by their codes, where each code is held or there are no rows.
+fn group_perfect<C: KeyColumn>(column: &C, sorted: bool) -> PolarsResult<GroupsType>
+    requires few { HasRowNumbers (length (C.value column.now).slots) }
+    requires perfect { IsPerfect (C.value column.now) }
+    ensures ok { (pool : Pool) → IfOk result (λ g.
+        groups_of g ≡ tuples_on Perfect (C.value column.now) sorted pool) }
+    ensures err { IfErr result IsNoMemory }
+{
+    if column.len() == 0 {
+        return Ok(no_groups(column.allocator()));
+    }
+    // The call tells that each code is held.
+    let _ = column.uses_all();
+    match column.codes() {
+        Some((codes, count)) => group_codes(codes, count, sorted),
+        None => unreachable!(),
+    }
 }
 
 /// All rows as one run, where there are any.
@@ -380,16 +221,15 @@ pub(crate) fn group_keys<T: Threads + Sync, G: Gate + Sync>(
     rt: &T,
     alloc: Global,
     keys: &Keys<'_>,
-    path: Path,
+    path: KeyPath,
     sorted: bool,
     pool: &Pool,
     gate: &G,
 ) -> PolarsResult<GroupsType>
     requires few { HasRowNumbers (rows_of_keys (seed_of pool.now) keys.now).count }
+    requires together { path ≡ Runs → StandTogether (rows_of_keys (seed_of pool.now) keys.now) }
     ensures ok { let rows = rows_of_keys (seed_of pool.now) keys.now in IfOk result (λ g.
-        groups_of g ≡ path_groups (path_value path) rows 0 (partitions_of pool.now) sorted) }
-    ensures formed { let rows = rows_of_keys (seed_of pool.now) keys.now in IfOk result (λ g.
-        IsWellFormed rows.count (groups_of g).pairs) }
+        groups_of g ≡ path_groups (key_path_value path) rows 0 (partitions_of pool.now) sorted) }
     ensures err { IfErr result IsNoMemory }
 {
     let mixer = SeedMixer::new(pool.seed());
@@ -435,20 +275,21 @@ fn group_rows<T: Threads + Sync, R: KeyRows, G: Gate + Sync>(
     rt: &T,
     alloc: Global,
     rows: &R,
-    path: Path,
+    path: KeyPath,
     sorted: bool,
     pool: &Pool,
     gate: &G,
 ) -> PolarsResult<GroupsType>
     requires few { HasRowNumbers (R.rows rows.now).count }
+    requires together { path ≡ Runs → StandTogether (R.rows rows.now) }
     ensures ok { IfOk result (λ g. groups_of g
-        ≡ path_groups (path_value path) (R.rows rows.now) 0 (partitions_of pool.now) sorted) }
-    ensures formed { IfOk result (λ g. IsWellFormed (R.rows rows.now).count (groups_of g).pairs) }
+        ≡ path_groups (key_path_value path) (R.rows rows.now) 0 (partitions_of pool.now) sorted) }
     ensures err { IfErr result IsNoMemory }
 {
     match path {
-        Path::Table => group_uncounted(alloc, rows, sorted),
-        Path::Threaded => {
+        KeyPath::Runs => group_runs(rt, alloc, rows, pool),
+        KeyPath::Table => group_uncounted(alloc, rows, sorted),
+        KeyPath::Threaded => {
             group_by_threaded_iter(rt, alloc, rows, pool.partitions(), sorted, pool, gate)
         }
     }

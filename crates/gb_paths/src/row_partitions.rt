@@ -8,16 +8,16 @@ ghost use Rattle.gb_defs.specs.Groups.{AreMembers, HasRowNumbers};
 ghost use Rattle.gb_defs.specs.Rows.{AreHashes, Rows};
 ghost use Rattle.gb_base.specs.PlSmallStr.{IsNoMemory};
 ghost use Rattle.gb_groups.specs.Groups.{lists_of};
-ghost use Rattle.gb_paths.specs.Numbers.{IsRoomFor, counts_by, lists_by};
+ghost use Rattle.gb_groups.specs.Numbers.{IsRoomFor, counts_by, lists_by};
 ghost use Rattle.gb_paths.specs.Partitions.{AreDealt, AreWithin, Lists, list_joined, lists_joined, partitions_by, rows_by_partition, share_of};
 
-use crate::row_groups::empty_lists;
 use crate::row_hashes::{CHUNK_ROWS, HashChunks, RowHashes};
 use gb_base::error::{PolarsError, PolarsResult};
 use gb_base::nullable_idx::IdxSize;
 use gb_base::pool::Pool;
 use gb_flat::shares::map_shares;
 use gb_groups::groups_idx::IdxVec;
+use gb_groups::row_lists::empty_lists;
 use gb_hash::combine::hash_to_partition;
 use std::alloc::{AllocError, Global};
 use std::thread::Threads;

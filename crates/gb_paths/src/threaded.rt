@@ -11,7 +11,7 @@ ghost use Rattle.gb_hash.specs.Keys.{key_slots};
 ghost use Rattle.gb_paths.specs.Numbers.{groups_among};
 ghost use Rattle.gb_paths.specs.Partitions.{AreListed, groups_of_partitions, groups_of_parts, list_joined};
 
-use crate::row_groups::{ListedRows, group_members};
+use crate::row_groups::group_members;
 use crate::row_hashes::{HashChunks, hash_rows_par};
 use crate::row_partitions::{join_lists, partition_rows};
 use gb_base::device::Gate;
@@ -21,6 +21,7 @@ use gb_base::pool::Pool;
 use gb_flat::shares::{join_shares, map_shares};
 use gb_groups::groups_idx::{GroupsIdx, IdxItem, IdxVec};
 use gb_groups::groups_type::GroupsType;
+use gb_groups::row_lists::ListedRows;
 use gb_hash::dirty_hash::{DirtyHash, Mixer};
 use gb_hash::key_rows::{KeyRows, Steps};
 use gb_hash::slice_rows::SliceRows;

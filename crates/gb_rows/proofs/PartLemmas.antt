@@ -1,13 +1,14 @@
 -- Rows that are made in parts, and joined.
 use Rattle.std.proofs.Common.{◌≡◌, ◌∙◌, ◌+◌, ◌-◌, ◌<◌, ◌≤◌, ◌^◌, ℕ, zero, suc, Bool, cond, List, [], ◌∷◌, ◌++◌, length, map, take, drop, get_or, refl, sym, ap, subst, arith, append_assoc, length-append}
 use Rattle.std.specs.List.{flat_map, range_with_len}
-use Rattle.std.proofs.lemmas.List.{append-nil, get_or-map, length-map, map-id, same_lists}
-use Rattle.std.proofs.lemmas.List.FromFn.{get_or-map-range_with_len, length-map-range_with_len, length-range_with_len, take-map-range_with_len}
+use Rattle.std.proofs.lemmas.List.{append-nil, get_or-map, length-map, same_lists}
+use Rattle.std.proofs.lemmas.List.FromFn.{get_or-map-range_with_len, length-map-range_with_len, length-range_with_len}
 use Rattle.gb_defs.specs.Column.{ColumnValue}
 use Rattle.gb_defs.specs.Flat.{range_at, ranges_of}
 use Rattle.gb_defs.specs.Slot.{Slot, Bytes, Nil}
 use Rattle.gb_cols.specs.Column.{appended}
 use Rattle.gb_values.specs.Array.{flagged_slots}
+use Rattle.gb_flat.proofs.RangeLemmas.{range_between}
 use Rattle.gb_flat.proofs.ShareLemmas.{range_inside, ranges_count, shares_joined}
 use Rattle.gb_rows.specs.Rows.{full_of_cells, is_full, row_of_cells, rows_of_cells}
 use Rattle.gb_rows.proofs.RowLemmas.{map_twice}
@@ -34,27 +35,6 @@ module _ (columns : List (List (List ℕ))) (start count : ℕ) (rows : List (Li
       ∙ ap (flagged_slots (map (λ bytes. Bytes bytes) (rows_of_cells start (start + count) columns))) which
       ∙ flagged_range (row_of_cells columns) (is_full columns) start (start + count - start)
       ∙ ap (λ n. map (λ r. cond (is_full columns r) (Bytes (row_of_cells columns r)) Nil) (range_with_len start n)) counted
-
--- ---- ranges of numbers
-
-take_range : (a n c : ℕ) → c ≤ n → take c (range_with_len a n) ≡ range_with_len a c
-take_range a n c le = ap (take c) (sym (map-id (range_with_len a n))) ∙ take-map-range_with_len (λ x. x) a n c le ∙ map-id (range_with_len a c)
-
-drop_range : (a n s : ℕ) → s ≤ n → drop s (range_with_len a n) ≡ range_with_len (a + s) (n - s)
-drop_range a n zero le =
-    let same : a + 0 ≡ a = omega arith in
-    let all : n - 0 ≡ n = omega arith in
-    rw (same, all) refl
-drop_range a zero (suc s) le = absurd (omega (arith, le))
-drop_range a (suc n) (suc s) le =
-    let next : a + suc s ≡ a + 1 + s = omega arith in
-    let fewer : suc n - suc s ≡ n - s = omega arith in
-    rw (next, fewer) (drop_range (a + 1) n s (omega (arith, le)))
-
-range_between : (n s c : ℕ) → s + c ≤ n → take c (drop s (range_with_len 0 n)) ≡ range_with_len s c
-range_between n s c inside =
-    let from : 0 + s ≡ s = omega arith in
-    ap (take c) (drop_range 0 n s (omega (arith, inside)) ∙ ap (λ a. range_with_len a (n - s)) from) ∙ take_range s (n - s) c (omega (arith, inside))
 
 -- ---- a chunk for each range
 

@@ -57,7 +57,7 @@ module _ (names : List (List ℕ)) (frame : Frame) where
       let p = and_parts (is_asked names agg.0) (are_asked names (map (λ agg. agg.0) aggs)) a in
       (find_kept names frame agg.0 p.0, kept_same aggs p.1)
 
-  columns_same : (by : List (List ℕ)) → are_asked names by ≡ true → find_columns (kept names frame) by ≡ find_columns frame by
+  pub columns_same : (by : List (List ℕ)) → are_asked names by ≡ true → find_columns (kept names frame) by ≡ find_columns frame by
   columns_same [] a = refl
   columns_same (name ∷ by) a =
       let p = and_parts (is_asked names name) (are_asked names by) a in
@@ -69,7 +69,7 @@ module _ (names : List (List ℕ)) (frame : Frame) where
   found_height [] name rest keys n all e = cc
   found_height (c ∷ cs) name rest keys n all e = (aligned_tail n c cs all).0
 
-  height_same : (by : List (List ℕ)) (keys : List ColumnValue) → IsFrame frame → by ≢ [] → are_asked names by ≡ true → find_columns frame by ≡ Ok keys
+  pub height_same : (by : List (List ℕ)) (keys : List ColumnValue) → IsFrame frame → by ≢ [] → are_asked names by ≡ true → find_columns frame by ≡ Ok keys
       → height_of (kept names frame) keys ≡ height_of frame keys
   height_same [] keys f some a e = absurd (some refl)
   height_same (name ∷ by) keys f some a e =
@@ -111,9 +111,12 @@ asked_front (name ∷ names) behind front =
     let rest = rw (append_assoc front (name ∷ []) (names ++ behind)) at (asked_front names behind (front ++ name ∷ [])) in
     rw (asked_here front name (names ++ behind), rest) refl
 
+pub keys_asked : (by : List (List ℕ)) (aggs : List (List ℕ × Method)) → are_asked (asked_names by aggs) by ≡ true
+keys_asked by aggs = asked_front by (map (λ (agg : List ℕ × Method). agg.0) aggs) []
+
 -- the keys and the columns that are aggregated are all that a grouping reads
 pub grouped_asked : (frame : Frame) (by : List (List ℕ)) (aggs : List (List ℕ × Method)) → IsFrame frame → by ≢ []
     → grouped (kept (asked_names by aggs) frame) by aggs ≡ grouped frame by aggs
 grouped_asked frame by aggs f some =
     let names = map (λ (agg : List ℕ × Method). agg.0) aggs in
-    grouped_kept (asked_names by aggs) frame by aggs f some (asked_front by names []) (asked_behind by names)
+    grouped_kept (asked_names by aggs) frame by aggs f some (keys_asked by aggs) (asked_behind by names)

@@ -245,6 +245,14 @@ module _ (frame : Frame) (whole : IsFrame frame) (names : List (List ℕ)) (keys
         are ∙ ap (λ n. groups (agree_by (slots_of keys)) (rows_below n)) (keys_height ∙ sym height) in
         record { first_rows = ap (map first_of) here; row_lists = ap (map rows_of_pair) here }
 
+    -- there are as many as classes
+    pub keys_counted : length g.pairs ≡ length (firsts (agree_of frame keys) (kept_rows frame keys))
+    keys_counted =
+        let all = kept_rows frame keys in
+        sym (ap (λ (a : ℕ → ℕ → Bool). length (firsts a all)) (agree_high frame keys keys_high)
+        ∙ ap (λ (rows : List ℕ). length rows) (sym (keys_grouped.first_rows ∙ groups_firsts (agree_by (slots_of keys)) all))
+        ∙ length-map g.pairs first_of)
+
     module _ (formed : IsWellFormed (frame_height keys) g.pairs) where
       first_rows_below : All (λ row. row < frame_height frame) (firsts_in g)
       first_rows_below = rw (← keys_height) (All-map (λ row. row < frame_height keys) first_of g.pairs (λ k d lt. (formed.fit k d lt).first))

@@ -8,4 +8,5 @@ pub mod NearLemmas
 pub mod PartLemmas
 pub mod ReportLemmas
 pub mod RunLemmas
+pub mod TraceLemmas
 pub mod WordsLemmas

@@ -1,13 +1,15 @@
 -- How a run of the program ends, over what its devices had before it and have after it. A device that
 -- does not tell its bytes has None.
-use Rattle.std.specs.Prelude.{◌≡◌, ℕ, ◌<◌, ◌≤◌, ◌+◌, Bool, true, false, List, [], ◌++◌, length, map, take, ◌⊎◌, ◌∷◌, Option, Some, None, IfSome, IsSome, option_map, Result, Ok, Err, String}
+use Rattle.std.specs.Prelude.{◌≡◌, ℕ, ◌<◌, ◌≤◌, Bool, true, false, List, [], ◌++◌, length, map, ◌⊎◌, ◌∷◌, Option, Some, None, IfSome, IsSome, String}
 use Rattle.std.specs.String.{string_bytes}
 use Rattle.gb_defs.specs.Fault.{Fault}
 use Rattle.gb_defs.specs.Outcome.{Outcome, BadTable, BadGroup, Report, outcome}
 use Rattle.gb_defs.specs.Request as asked
 use Rattle.gb_defs.specs.Table as table
 use Rattle.gb_base.specs.Device.{Rose}
-use Rattle.gb_text.specs.Moved.{Holds, HoldsPart}
+use Rattle.gb_text.specs.Moved.{HasWritten, Holds, HoldsPart}
+use Rattle.gb_text.specs.StatusLine.{status_line}
+use Rattle.gb_defs.specs.Notes.{IsTraceLine, IsTracedIn, asks_trace}
 use Rattle.gb_text.specs.Status.{Tells, fault_value}
 use Rattle.gb_text.specs.Stream.{HasReadAll}
 use Rattle.gb_text.specs.declared.status.Status.{Status}
@@ -69,11 +71,6 @@ has_ended (Group e) = true
 has_ended WriteFault = true
 has_ended _ = false
 
--- the status of a run that went through, or that stopped with a status
-abbrev pub status_of : Result (Unit {0}) Status → Status
-status_of (Ok u) = Done
-status_of (Err s) = s
-
 -- why there is no text for this outcome
 abbrev pub IsRefusedReport : Status → Outcome → Type 0
 IsRefusedReport (Table fault) o = o ≡ BadTable (fault_value fault)
@@ -100,13 +97,46 @@ pub record Run : Type 0 where
   pub write_faults : ℕ
   pub write_faults_after : ℕ
 
+-- why a run has no answer
+abbrev pub HasNoAnswer : Task → ℕ → ℕ → Status → Type 0
+HasNoAnswer task faults faults_after Usage = task.request ≡ None
+HasNoAnswer task faults faults_after (Table fault) = Comes task (BadTable (fault_value fault))
+HasNoAnswer task faults faults_after (Group e) = (f : Fault) × Tells e f × Comes task (BadGroup f)
+HasNoAnswer task faults faults_after ReadFault = IsSome task.request × Rose faults faults_after
+HasNoAnswer task faults faults_after TooLong = IsTooLong task
+HasNoAnswer task faults faults_after NoMemory = Unit {0}
+HasNoAnswer task faults faults_after _ = ⊥
+
 -- why a run ended with this status
 abbrev pub HasCause : Run → Status → Type 0
 HasCause run Done = Writes run.task (λ text. Holds text run.held run.held_after)
-HasCause run Usage = run.task.request ≡ None
-HasCause run (Table fault) = Comes run.task (BadTable (fault_value fault))
-HasCause run (Group e) = (f : Fault) × Tells e f × Comes run.task (BadGroup f)
-HasCause run ReadFault = IsSome run.task.request × Rose run.read_faults run.read_faults_after
 HasCause run WriteFault = Writes run.task (λ text. HoldsPart text run.held run.held_after) × Rose run.write_faults run.write_faults_after
-HasCause run TooLong = IsTooLong run.task
-HasCause run NoMemory = Unit {0}
+HasCause run s = HasNoAnswer run.task run.read_faults run.read_faults_after s
+
+-- ---- the notes of a run
+
+-- the line of the trace is one of this task's
+abbrev pub IsTraceOf : Task → List ℕ → Type 0
+IsTraceOf task line = (q : asked.Request) → task.request ≡ Some q → IsTraceLine (asks_trace q) (λ trace. IfSome task.input (λ bytes. IsTracedIn bytes q trace)) line
+
+-- a run with an answer tells how it came by it, and one with none does not
+abbrev pub HasTraceLine : Task → Status → List ℕ → Type 0
+HasTraceLine task Done line = IsTraceOf task line
+HasTraceLine task WriteFault line = IsTraceOf task line
+HasTraceLine task s line = line ≡ []
+
+-- the line of the trace and behind it that of the status were written, or the notes failed and have a part
+pub record AreNotes (task : Task) (s : Status) (before after : Option (List ℕ)) (faults faults_after : ℕ) : Type 0 where
+  pub line : List ℕ
+  pub traced : HasTraceLine task s line
+  pub written : HasWritten (line ++ status_line s) before after faults faults_after
+
+-- a text and the line of a trace are the answer to a request over the bytes of a table
+pub record IsAnswerTo (q : asked.Request) (bytes text line : List ℕ) : Type 0 where
+  pub text_is : outcome q bytes ≡ Report text
+  pub traced : IsTraceLine (asks_trace q) (IsTracedIn bytes q) line
+
+-- the same of the task
+pub record IsAnswer (task : Task) (text line : List ℕ) : Type 0 where
+  pub comes : Comes task (Report text)
+  pub traced : IsTraceOf task line

@@ -1,6 +1,6 @@
 //! From a frame to the frame of its groups: one row for each class of rows whose keys agree.
 
-ghost use Rattle.std.specs.Prelude.{◌≡◌, ◌<◌, map, length, All, None, Ok, false, is_none, IfOk, IfErr, OnOk};
+ghost use Rattle.std.specs.Prelude.{◌≡◌, ◌<◌, map, length, All, None, Ok, false, true, is_none, IfOk, IfErr, OnOk};
 ghost use Rattle.std.specs.Result.{result_err};
 ghost use Rattle.gb_defs.specs.Column.{IsFrame, content, find_column, frame_height, taken};
 ghost use Rattle.gb_defs.specs.Fault.{rows_fault, missing_fault, unfit_fault};
@@ -8,10 +8,12 @@ ghost use Rattle.gb_defs.specs.Answer.{aggregated};
 ghost use Rattle.gb_defs.specs.Outcome.{find_columns, grouped};
 ghost use Rattle.gb_base.specs.PolarsError.{Explains};
 ghost use Rattle.gb_defs.specs.Classes.{agree_by, groups, rows_below};
+ghost use Rattle.gb_defs.specs.Notes.{IsTraced};
+ghost use Rattle.gb_base.specs.Pool.{threshold_of, workers_of};
 ghost use Rattle.gb_defs.specs.Groups.{AreMembers, HasRowNumbers, IsWellFormed, lists_in};
 ghost use Rattle.gb_base.specs.PlSmallStr.{IsNoMemory, name_of};
 ghost use Rattle.gb_groups.specs.GroupsType.{groups_of};
-ghost use Rattle.gb_paths.specs.Tuples.{slots_of};
+ghost use Rattle.gb_paths.specs.Tuples.{AreFound, path_value, slots_of, trace_value};
 ghost use Rattle.gb_rows.specs.Lent.{keys_in};
 ghost use Rattle.gb_rows.specs.Rows.{AreOfOneLength};
 ghost use Rattle.gb_series.specs.Series.{value_of};
@@ -29,13 +31,16 @@ use gb_base::pool::Pool;
 use gb_base::small_str::PlSmallStr;
 use gb_cols::series_trait::SeriesTrait;
 use gb_groups::groups_type::GroupsType;
-use gb_paths::by_keys::group_by_keys;
+use gb_paths::by_keys::group_by_detected;
+use gb_paths::path::Path;
+use gb_paths::trace::Trace;
 use gb_series::frame::DataFrame;
 use gb_series::series::Series;
 use std::alloc::Global;
 use std::thread::Threads;
 
-/// The keys at the first row of each group, and the aggregates over its rows.
+/// The keys at the first row of each group, and the aggregates over its rows; beside them, how the rows were
+/// grouped.
 pub fn group_frame<R: Threads + Sync, G: Gate + Sync>(
     rt: &R,
     alloc: Global,
@@ -44,10 +49,12 @@ pub fn group_frame<R: Threads + Sync, G: Gate + Sync>(
     aggs: &[Agg],
     pool: &Pool,
     gate: &G,
-) -> PolarsResult<DataFrame>
+) -> PolarsResult<(DataFrame, Trace)>
     requires some { 0 < length by.now }
-    ensures ok { IfOk result (λ answer.
-        grouped frame.now (names_of by.now) (aggs_of aggs.now) ≡ Ok (map content answer)) }
+    ensures ok { IfOk result (λ made.
+        grouped frame.now (names_of by.now) (aggs_of aggs.now) ≡ Ok (map content made.0)) }
+    ensures traced { IfOk result (λ made. IsTraced frame.now (names_of by.now)
+        (workers_of pool.now) (threshold_of pool.now) (trace_value made.1)) }
     ensures err { IfErr result (λ e.
         Explains e (grouping_fault frame.now (names_of by.now) (aggs_of aggs.now))) }
 {
@@ -83,41 +90,47 @@ fn group_by_found<R: Threads + Sync, G: Gate + Sync>(
     aggs: &[Agg],
     pool: &Pool,
     gate: &G,
-) -> PolarsResult<DataFrame>
+) -> PolarsResult<(DataFrame, Trace)>
     requires some { 0 < length by.now }
     requires found { find_columns frame.now (names_of by.now) ≡ Ok (keys_in keys.now) }
-    ensures ok { IfOk result (λ answer.
-        grouped frame.now (names_of by.now) (aggs_of aggs.now) ≡ Ok (map content answer)) }
+    ensures ok { IfOk result (λ made.
+        grouped frame.now (names_of by.now) (aggs_of aggs.now) ≡ Ok (map content made.0)) }
+    ensures traced { IfOk result (λ made. IsTraced frame.now (names_of by.now)
+        (workers_of pool.now) (threshold_of pool.now) (trace_value made.1)) }
     ensures err { IfErr result (λ e.
         Explains e (grouping_fault frame.now (names_of by.now) (aggs_of aggs.now))) }
 {
     check_height(frame.height())?;
     check_columns(frame, aggs)?;
-    let groups = key_groups(rt, keys, pool, gate)?;
+    let (groups, path) = key_groups(rt, keys, pool, gate)?;
+    let trace = Trace::new(path, frame.height(), groups.len());
     let columns = answer_columns(rt, alloc, frame, keys, aggs, groups, pool)?;
-    DataFrame::new(columns)
+    let answer = DataFrame::new(columns)?;
+    Ok((answer, trace))
 }
 
 // The rows that hold one slot in each key, in the order of their first rows, by as many workers as there
-// are.
+// are, and the path to them.
 fn key_groups<R: Threads + Sync, G: Gate + Sync>(
     rt: &R,
     keys: &[&Series],
     pool: &Pool,
     gate: &G,
-) -> PolarsResult<GroupsType>
+) -> PolarsResult<(GroupsType, Path)>
     requires some { 0 < length keys.now }
     requires aligned { AreOfOneLength (keys_in keys.now) }
     requires few { HasRowNumbers (frame_height (keys_in keys.now)) }
-    ensures ok { let keys = keys_in keys.now in IfOk result (λ g. (groups_of g).pairs
+    ensures ok { let keys = keys_in keys.now in IfOk result (λ made. (groups_of made.0).pairs
         ≡ groups (agree_by (slots_of keys)) (rows_below (frame_height keys))) }
-    ensures formed { IfOk result (λ g.
-        IsWellFormed (frame_height (keys_in keys.now)) (groups_of g).pairs) }
+    ensures path { IfOk result (λ made. AreFound (keys_in keys.now) true true pool.now
+        (groups_of made.0) (path_value made.1)) }
+    ensures formed { IfOk result (λ made.
+        IsWellFormed (frame_height (keys_in keys.now)) (groups_of made.0).pairs) }
     ensures err { IfErr result IsNoMemory }
 {
     let multithreaded = true;
     let sorted = true;
-    group_by_keys(rt, keys, multithreaded, sorted, pool, gate)
+    group_by_detected(rt, keys, multithreaded, sorted, pool, gate)
 }
 
 // That so many rows have numbers.

@@ -1,11 +1,15 @@
 //! From the table that a source has to the text of the answer.
 
 ghost use Rattle.std.specs.Prelude.{◌≡◌, ◌≢◌, ◌<◌, ◌≤◌, ◌+◌, length, Err, IfErr, IfOk};
-ghost use Rattle.gb_defs.specs.Outcome.{Report, outcome};
+ghost use Rattle.std.specs.String.{string_bytes};
+ghost use Rattle.gb_defs.specs.Notes.{IsTraceLine, bounded_threshold, bounded_workers};
+ghost use Rattle.gb_defs.specs.Outcome.{outcome};
+ghost use Rattle.gb_base.specs.Pool.{threshold_of, workers_of};
+ghost use Rattle.gb_paths.specs.Tuples.{trace_value};
 ghost use Rattle.gb_text.specs.Asked.{names_in};
-ghost use Rattle.gb_run.specs.Request.{HasKeys, aggs_of, asked_names, group_by, names_of, request_of};
+ghost use Rattle.gb_run.specs.Request.{HasKeys, aggs_of, asked_names, group_by, names_of, options_of, request_of};
 ghost use Rattle.gb_text.specs.Moved.{HasTaken};
-ghost use Rattle.gb_run.specs.Run.{IsRefusedText};
+ghost use Rattle.gb_run.specs.Run.{IsAnswerTo, IsRefusedText};
 ghost use Rattle.gb_text.specs.Stream.{HasReadAll};
 ghost use Rattle.gb_text.specs.declared.status.Status.TheVariants as status;
 
@@ -14,6 +18,7 @@ use crate::words::{Agg, Request, ToolOptions};
 use gb_base::device::{Gate, Source};
 use gb_base::pool::Pool;
 use gb_base::small_str::PlSmallStr;
+use gb_paths::trace::Trace;
 use gb_text::status::Status;
 use gb_text::table::blocks::{Reading, read_table};
 use gb_text::text;
@@ -21,7 +26,10 @@ use std::alloc::{AllocError, Global};
 use std::thread::Threads;
 
 // The pool that the options ask, each within its bounds.
-fn pool_of(options: &ToolOptions) -> Pool {
+fn pool_of(options: &ToolOptions) -> Pool
+    ensures workers { workers_of result ≡ bounded_workers (options_of options.now) }
+    ensures threshold { threshold_of result ≡ bounded_threshold (options_of options.now) }
+{
     Pool::new(
         options.workers.clamp(1, 64),
         options.partitions.clamp(1, 1024),
@@ -34,8 +42,15 @@ fn pool_of(options: &ToolOptions) -> Pool {
 // How many bytes of the input are held at a time.
 const BLOCK_BYTES: usize = 8_388_608;
 
-/// The text of the answer to the request over the table that the source has left, if it is at most `limit`
-/// bytes. The request has a key.
+/// The text of an answer, and the line of its trace: empty where none is asked for.
+#[derive(Drop)]
+pub struct Answer {
+    pub text: Vec<u8>,
+    pub line: String,
+}
+
+/// The answer to the request over the table that the source has left, if it is at most `limit` bytes. The
+/// request has a key.
 pub fn report<R: Threads + Sync, S: Source, G: Gate + Sync>(
     rt: &R,
     alloc: Global,
@@ -43,11 +58,12 @@ pub fn report<R: Threads + Sync, S: Source, G: Gate + Sync>(
     source: &mut S,
     limit: u64,
     gate: &G,
-) -> Result<Vec<u8>, Status>
+) -> Result<Answer, Status>
     requires limit { limit ≤ 4294967295 }
     requires some { HasKeys (request_of request.now) }
-    ensures ok { IfOk result (λ text. HasReadAll limit (S.left source.old) (S.left source.new)
-        (λ bytes. outcome (request_of request.now) bytes ≡ Report text.items)) }
+    ensures ok { IfOk result (λ answer.
+        HasReadAll limit (S.left source.old) (S.left source.new) (λ bytes.
+        IsAnswerTo (request_of request.now) bytes answer.text.items (string_bytes answer.line))) }
     ensures err { IfErr result (IsRefusedText (outcome (request_of request.now))
         (S.faults source.old) (S.faults source.new) limit
         (S.left source.old) (S.left source.new)) }
@@ -89,7 +105,19 @@ fn names_asked<'a>(
     Ok(names)
 }
 
-// The text of the grouped table.
+// The line of a trace, where it is asked for.
+fn trace_line(alloc: Global, asked: bool, trace: &Trace) -> Result<String, AllocError>
+    ensures { IfOk result (λ line.
+        IsTraceLine asked (λ told. told ≡ trace_value trace.now) (string_bytes line)) }
+{
+    if asked {
+        format!(in alloc; "{trace}\n")
+    } else {
+        Ok(String::new(alloc))
+    }
+}
+
+// The text of the grouped table, and the line of its trace.
 fn group_report<R: Threads + Sync, S: Source, G: Gate + Sync>(
     rt: &R,
     alloc: Global,
@@ -99,11 +127,12 @@ fn group_report<R: Threads + Sync, S: Source, G: Gate + Sync>(
     source: &mut S,
     limit: u64,
     gate: &G,
-) -> Result<Vec<u8>, Status>
+) -> Result<Answer, Status>
     requires limit { limit ≤ 4294967295 }
     requires some { 0 < length by.now }
-    ensures ok { IfOk result (λ text. HasReadAll limit (S.left source.old) (S.left source.new)
-        (λ bytes. outcome (group_by by.now aggs.now options.now) bytes ≡ Report text.items)) }
+    ensures ok { let request = group_by by.now aggs.now options.now in IfOk result (λ answer.
+        HasReadAll limit (S.left source.old) (S.left source.new) (λ bytes.
+        IsAnswerTo request bytes answer.text.items (string_bytes answer.line))) }
     ensures err { IfErr result (IsRefusedText (outcome (group_by by.now aggs.now options.now))
         (S.faults source.old) (S.faults source.new) limit
         (S.left source.old) (S.left source.new)) }
@@ -120,6 +149,8 @@ fn group_report<R: Threads + Sync, S: Source, G: Gate + Sync>(
         block: BLOCK_BYTES,
     };
     let frame = read_table(rt, alloc, source, limit, &reading)?;
-    let answer = group_frame(rt, alloc, &frame, by, aggs, &pool, gate)?;
-    Ok(text::text_of(alloc, &answer, options.null_word.as_str())?)
+    let (answer, trace) = group_frame(rt, alloc, &frame, by, aggs, &pool, gate)?;
+    let text = text::text_of(alloc, &answer, options.null_word.as_str())?;
+    let line = trace_line(alloc, options.explain, &trace)?;
+    Ok(Answer { text, line })
 }

@@ -1,6 +1,6 @@
 //! The top call of the program.
 
-ghost use Rattle.std.specs.Prelude.{◌≡◌, ◌≢◌, ◌≤◌, ◌+◌, ◌⊎◌, [], ◌∷◌, ◌<◌, ℕ, Err, IfErr, IsSome, List, None, Some, length, true};
+ghost use Rattle.std.specs.Prelude.{◌≡◌, ◌≢◌, ◌≤◌, ◌+◌, ◌⊎◌, [], ◌∷◌, ◌<◌, ℕ, Err, IfErr, IfOk, IsSome, List, None, OnOk, Some, length, true};
 ghost use Rattle.gb_defs.specs.Fault as fault;
 ghost use Rattle.gb_defs.specs.Outcome.{BadGroup, BadTable, Report};
 ghost use Rattle.gb_defs.specs.Table as table;
@@ -9,20 +9,21 @@ ghost use Rattle.gb_base.specs.PlSmallStr.{name_of};
 ghost use Rattle.gb_base.specs.declared.small_str.PlSmallStr.{PlSmallStr};
 ghost use Rattle.gb_base.specs.declared.error.PolarsError.{PolarsError};
 ghost use Rattle.gb_base.specs.declared.error.PolarsError.TheVariants.{ColumnNotFound, ComputeError};
-ghost use Rattle.gb_run.specs.Run.{Comes, HasCause, IsOneOf};
+ghost use Rattle.std.specs.String.{string_bytes};
+ghost use Rattle.gb_run.specs.Run.{AreNotes, Comes, HasCause, HasNoAnswer, IsAnswer, IsOneOf};
 ghost use Rattle.gb_text.specs.Moved.{HasTaken, Holds, HoldsPart};
 ghost use Rattle.gb_run.specs.Run.{IsTable, IsTooLong, OfOutcome, Run, WhereTold, Writes};
 ghost use Rattle.gb_text.specs.Moved.{IsReadToEnd};
-ghost use Rattle.gb_run.specs.Run.{asked_by, has_ended, status_of, task_of};
+ghost use Rattle.gb_run.specs.Run.{asked_by, has_ended, task_of};
 ghost use Rattle.gb_text.specs.Status.{IsTold, fault_value};
 ghost use Rattle.gb_text.specs.declared.status.TableFault.{TableFault};
 ghost use Rattle.gb_text.specs.declared.status.Status.TheVariants as status;
 
-use crate::report::report;
+use crate::report::{Answer, report};
 use crate::words::request_of;
 use gb_base::device::{Gate, Sink, Source};
+use gb_text::notes::{deliver, tell};
 use gb_text::status::Status;
-use gb_text::streams::write_text;
 use std::alloc::Global;
 use std::thread::Threads;
 
@@ -33,16 +34,46 @@ pub struct Limits {
     pub input_bytes: u64,
 }
 
-// Reads, reports and writes; the error is the status of a run that does not go through.
-fn answer<R: Threads + Sync, S: Source, W: Sink, G: Gate + Sync>(
+// Reads the table and answers the request of the words over it; the error is the status of a run with no
+// answer.
+fn prepare<R: Threads + Sync, S: Source, G: Gate + Sync>(
+    rt: &R,
+    alloc: Global,
+    words: &[String],
+    limit: u64,
+    source: &mut S,
+    gate: &G,
+) -> Result<Answer, Status>
+    requires limit { limit ≤ 4294967295 }
+    ensures ok { IfOk result (λ answer. IsAnswer (task_of words.now (S.left source.old) limit)
+        answer.text.items (string_bytes answer.line)) }
+    ensures err { IfErr result (HasNoAnswer (task_of words.now (S.left source.old) limit)
+        (S.faults source.old) (S.faults source.new)) }
+    ensures read { OnOk result (IsReadToEnd (S.left source.old) (S.left source.new)) }
+    ensures ended { IfErr result (λ s. has_ended s ≡ true
+        → IsReadToEnd (S.left source.old) (S.left source.new)) }
+    ensures taken { result ≢ Err status.ReadFault
+        → HasTaken (limit + 65536) (S.left source.old) (S.left source.new) }
+    ensures kept { S.faults source.old ≤ S.faults source.new }
+{
+    match request_of(alloc, words) {
+        Ok(Some(request)) => report(rt, alloc, &request, source, limit, gate),
+        Ok(None) => Err(Status::Usage),
+        Err(_) => Err(Status::NoMemory),
+    }
+}
+
+// Reads, answers, writes, and tells on the notes how that went.
+fn answer<R: Threads + Sync, S: Source, W: Sink, E: Sink, G: Gate + Sync>(
     rt: &R,
     alloc: Global,
     words: &[String],
     limit: u64,
     source: &mut S,
     sink: &mut W,
+    notes: &mut E,
     gate: &G,
-) -> Result<(), Status>
+) -> Status
     requires limit { limit ≤ 4294967295 }
     ensures cause { let run : Run = record {
       task = task_of words.now (S.left source.old) limit;
@@ -52,28 +83,26 @@ fn answer<R: Threads + Sync, S: Source, W: Sink, G: Gate + Sync>(
       held_after = W.held sink.new;
       write_faults = W.faults sink.old;
       write_faults_after = W.faults sink.new;
-    } in HasCause run (status_of result) }
-    ensures ended { has_ended (status_of result) ≡ true
+    } in HasCause run result }
+    ensures ended { has_ended result ≡ true
         → IsReadToEnd (S.left source.old) (S.left source.new) }
-    ensures unchanged { IfErr result (λ s. s ≢ status.WriteFault → sink.new ≡ sink.old) }
-    ensures taken { result ≢ Err status.ReadFault
+    ensures unchanged { result ≢ status.Done → result ≢ status.WriteFault → sink.new ≡ sink.old }
+    ensures notes { AreNotes (task_of words.now (S.left source.old) limit) result
+        (E.held notes.old) (E.held notes.new) (E.faults notes.old) (E.faults notes.new) }
+    ensures taken { result ≢ status.ReadFault
         → HasTaken (limit + 65536) (S.left source.old) (S.left source.new) }
     ensures read_faults { S.faults source.old ≤ S.faults source.new }
     ensures write_faults { W.faults sink.old ≤ W.faults sink.new }
 {
-    let request = match request_of(alloc, words) {
-        Ok(Some(request)) => request,
-        Ok(None) => return Err(Status::Usage),
-        Err(_) => return Err(Status::NoMemory),
-    };
-    let text = report(rt, alloc, &request, source, limit, gate)?;
-    write_text(sink, text.as_slice())?;
-    Ok(())
+    match prepare(rt, alloc, words, limit, source, gate) {
+        Ok(answer) => deliver(sink, notes, answer.text.as_slice(), answer.line.as_bytes()),
+        Err(status) => tell(alloc, notes, status),
+    }
 }
 
-/// Reads the table, answers the request of the words over it, and writes the answer's text. Today
-/// nothing is written to the notes. Each piece of work that a thread does enters the gate, and leaves
-/// it: only a test's gate waits there.
+/// Reads the table, answers the request of the words over it, and writes the answer's text. How the rows
+/// were grouped goes to the notes, where that is asked, and why there is no answer, where there is none.
+/// Each piece of work that a thread does enters the gate, and leaves it: only a test's gate waits there.
 pub fn run<R: Threads + Sync, S: Source, W: Sink, E: Sink, G: Gate + Sync>(
     rt: &R,
     alloc: Global,
@@ -146,14 +175,21 @@ pub fn run<R: Threads + Sync, S: Source, W: Sink, E: Sink, G: Gate + Sync>(
     ensures ended { has_ended result ≡ true
         → IsReadToEnd (S.left source.old) (S.left source.new) }
     ensures unchanged { result ≢ status.Done → result ≢ status.WriteFault → sink.new ≡ sink.old }
-    ensures notes { notes.new ≡ notes.old }
+    ensures notes { AreNotes (task_of words.now (S.left source.old) limits.input_bytes) result
+        (E.held notes.old) (E.held notes.new) (E.faults notes.old) (E.faults notes.new) }
     ensures taken { result ≢ status.ReadFault
         → HasTaken (limits.input_bytes + 65536) (S.left source.old) (S.left source.new) }
     ensures read_faults { S.faults source.old ≤ S.faults source.new }
     ensures write_faults { W.faults sink.old ≤ W.faults sink.new }
 {
-    match answer(rt, alloc, words, limits.input_bytes, source, sink, gate) {
-        Ok(()) => Status::Done,
-        Err(status) => status,
-    }
+    answer(
+        rt,
+        alloc,
+        words,
+        limits.input_bytes,
+        source,
+        sink,
+        notes,
+        gate,
+    )
 }

@@ -9,6 +9,7 @@ use gb_base::rev_mapping::RevMapping;
 use gb_base::small_str::PlSmallStr;
 use gb_cols::binary::AnyBytes;
 use gb_cols::chunked::{ChunkedArray, StringChunked};
+use gb_cols::codes::codes_in_range;
 use gb_cols::null::NullChunked;
 use gb_cols::primitive::UInt32Chunked;
 use gb_cols::series_trait::SeriesTrait;
@@ -16,7 +17,7 @@ use gb_compare::inner::{TotalEqInner, TotalOrdInner};
 use gb_compare::layout::{EqInner, IntoTotalInner, OrdInner};
 use gb_compare::null_order::{NonNull, NullOrderCmp};
 use gb_compare::total_ord::{Number, TotalEq, TotalOrd};
-use gb_logical::categorical::{CategoricalChunked, codes_in_range};
+use gb_logical::categorical::CategoricalChunked;
 use gb_logical::logical::{
     DateChunked, DatetimeChunked, DecimalChunked, DurationChunked, TimeChunked,
 };

@@ -31,7 +31,7 @@ find_same : (frame : Frame) (name : List ℕ) → find_column (map rechunked fra
 find_same [] name = refl
 find_same (c ∷ cs) name = elim (cases_Bool (bytes_eq c.name name)) [ inl same ↦ rw same refl | inr other ↦ rw other (find_same cs name) ]
 
-abbrev found : Result (List ColumnValue) Fault → Result (List ColumnValue) Fault
+abbrev pub found : Result (List ColumnValue) Fault → Result (List ColumnValue) Fault
 found (Err missing) = Err missing
 found (Ok cs) = Ok (map rechunked cs)
 
@@ -40,11 +40,11 @@ onto_same name None r = refl
 onto_same name (Some c) (Err missing) = refl
 onto_same name (Some c) (Ok cs) = refl
 
-columns_same : (frame : Frame) (by : List (List ℕ)) → find_columns (map rechunked frame) by ≡ found (find_columns frame by)
+pub columns_same : (frame : Frame) (by : List (List ℕ)) → find_columns (map rechunked frame) by ≡ found (find_columns frame by)
 columns_same frame [] = refl
 columns_same frame (name ∷ by) = rw (find_same frame name, columns_same frame by) (onto_same name (find_column frame name) (find_columns frame by))
 
-height_same : (frame : Frame) (keys : List ColumnValue) → height_of (map rechunked frame) (map rechunked keys) ≡ height_of frame keys
+pub height_same : (frame : Frame) (keys : List ColumnValue) → height_of (map rechunked frame) (map rechunked keys) ≡ height_of frame keys
 height_same [] keys = ap longest (map_same (λ key. key.slots) (λ c. refl) keys)
 height_same (c ∷ cs) keys = refl
 
@@ -79,7 +79,7 @@ module _ (frame : Frame) where
   -- ---- groups
 
   module _ (keys : List ColumnValue) where
-    agree_same : agree_of (map rechunked frame) (map rechunked keys) ≡ agree_of frame keys
+    pub agree_same : agree_of (map rechunked frame) (map rechunked keys) ≡ agree_of frame keys
     agree_same = rw (height_same frame keys) (ap agree_by (map_same (λ key. (stretched_key (height_of frame keys) key).slots) (λ c. refl) keys))
 
     shape_same : (height : ℕ) → shape_fault height (map rechunked keys) ≡ shape_fault height keys
@@ -116,7 +116,7 @@ lengths_same : (n : ℕ) (frame : Frame) → all_have_length n (map rechunked fr
 lengths_same n [] = refl
 lengths_same n (c ∷ cs) = rw (lengths_same n cs) refl
 
-tall_same : (frame : Frame) → frame_height (map rechunked frame) ≡ frame_height frame
+pub tall_same : (frame : Frame) → frame_height (map rechunked frame) ≡ frame_height frame
 tall_same [] = refl
 tall_same (c ∷ cs) = refl
 

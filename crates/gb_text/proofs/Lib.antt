@@ -4,6 +4,7 @@ pub mod BuiltLemmas
 pub mod CellLemmas
 pub mod ChunkLemmas
 pub mod DeviceLemmas
+pub mod NoteLemmas
 pub mod DigitsLemmas
 pub mod ExtendLemmas
 pub mod HeadLemmas

@@ -11,6 +11,7 @@ pub mod Plain
 pub mod Queue
 pub mod Refusal
 pub mod Status
+pub mod StatusLine
 pub mod Stream
 pub mod Table
 pub mod Taking

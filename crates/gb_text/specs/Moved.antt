@@ -1,5 +1,5 @@
 -- What was moved from a source, and what a sink holds. A device that does not tell its bytes has None.
-use Rattle.std.specs.Prelude.{◌≡◌, ℕ, ◌<◌, ◌≤◌, ◌+◌, List, [], ◌++◌, length, take, Option, Some, None, IfSome, option_map}
+use Rattle.std.specs.Prelude.{◌≡◌, ◌⊎◌, ℕ, ◌<◌, ◌≤◌, ◌+◌, List, [], ◌++◌, length, take, Option, Some, None, IfSome, option_map}
 use Rattle.gb_base.specs.Device.{Rose}
 use Rattle.gb_text.specs.declared.status.Status.{Status}
 use Rattle.gb_text.specs.declared.status.Status.TheVariants.{ReadFault, TooLong, NoMemory}
@@ -43,3 +43,7 @@ pub record HoldsPart (text : List ℕ) (before after : Option (List ℕ)) : Type
 -- the text was written behind what the sink held
 abbrev pub Holds : List ℕ → Option (List ℕ) → Option (List ℕ) → Type 0
 Holds text before after = after ≡ option_map (λ held. held ++ text) before
+
+-- the text was written whole, or the sink failed and has taken a part of it
+abbrev pub HasWritten : List ℕ → Option (List ℕ) → Option (List ℕ) → ℕ → ℕ → Type 0
+HasWritten text before after faults faults_after = Holds text before after ⊎ (Rose faults faults_after × HoldsPart text before after)

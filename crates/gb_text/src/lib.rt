@@ -2,6 +2,7 @@
 //! first fault, and a frame is written as text. Here are also the statuses that reading and writing come to.
 #![tactic(auto)]
 
+pub mod notes;
 pub mod status;
 pub mod streams;
 pub mod table;

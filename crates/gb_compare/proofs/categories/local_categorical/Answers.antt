@@ -2,7 +2,7 @@ use Rattle.std.proofs.Common.{List, Some, length, ◌∙◌, ap, subst, sym}
 use Rattle.std.specs.List.{All}
 use Rattle.gb_defs.specs.Column.{ColumnValue}
 use Rattle.gb_defs.specs.Slot.{Slot}
-use Rattle.gb_logical.specs.Categorical.{IsCodeBelow}
+use Rattle.gb_cols.specs.Codes.{IsCodeBelow}
 use Rattle.gb_compare.proofs.PlacedLemmas.{codes_below, like_texts}
 use Rattle.gb_compare.proofs.categories.local_categorical.Goals as goal
 

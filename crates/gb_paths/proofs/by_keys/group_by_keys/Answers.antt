@@ -27,6 +27,6 @@ returns-clause-classes g c =
     let keys = keys_in lent in
     let pool = c.args.pool.now in
     let some : 0 < length keys = rw (length-map lent (λ key. value_of key.now)) c.requires.some in
-    IfOk-weaker c.group_several.result _ _ (λ found h sorted. ap (λ g. g.pairs) h
+    λ sorted. ap (λ g. g.pairs) c.in_ok-groups.ensures.ok
     ∙ ap (λ s. (tuples_by keys c.args.multithreaded s pool).pairs) sorted
-    ∙ classes_by keys c.args.multithreaded pool some) c.group_several.ensures.ok
+    ∙ classes_by keys c.args.multithreaded pool some

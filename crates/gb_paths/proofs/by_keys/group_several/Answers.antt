@@ -1,17 +1,18 @@
-use Rattle.std.proofs.Common.{rules, ◌≡◌, ◌∙◌, ◌<◌, ℕ, [], ap, arith, length, subst, sym}
+use Rattle.std.proofs.Common.{rules, ◌≡◌, ◌∙◌, ◌<◌, ℕ, [], ap, arith, length, subst, sym, true}
 use Rattle.std.proofs.lemmas.List.{length-map}
-use Rattle.std.proofs.lemmas.Result.{IfOk-weaker}
 use Rattle.gb_defs.specs.Column.{frame_height}
 use Rattle.gb_defs.specs.Groups.{IsWellFormed}
-use Rattle.gb_defs.specs.Path.{run_groups}
+use Rattle.gb_defs.specs.Path.{hashed_path, run_groups}
+use Rattle.gb_base.specs.Pool.{threshold_of, workers_of}
 use Rattle.gb_groups.specs.GroupsType.{groups_of}
 use Rattle.gb_series.specs.Series.{value_of}
 use Rattle.gb_rows.specs.Lent.{keys_in}
 use Rattle.gb_rows.specs.Rows.{AreOfOneLength}
 use Rattle.gb_rows.specs.Told.{AreToldByRows}
 use Rattle.gb_paths.specs.Keys.{null_rows}
-use Rattle.gb_paths.specs.Tuples.{tuples_of_bytes, valued_keys}
-use Rattle.gb_paths.proofs.SeveralLemmas.{both_ok, first_lent, none_lent, tuples_by_bytes, tuples_by_none, valued_height, valued_length}
+use Rattle.gb_defs.specs.Notes.{path_by_keys, valued_keys}
+use Rattle.gb_paths.specs.Tuples.{tuples_of_bytes}
+use Rattle.gb_paths.proofs.SeveralLemmas.{first_lent, none_lent, some_path, tuples_by_bytes, tuples_by_none, valued_height, valued_length}
 use Rattle.gb_paths.proofs.by_keys.group_several.Goals as goal
 
 pub returns-then-is_empty-clause-ok : goal.returns-then-is_empty-clause-ok
@@ -24,8 +25,17 @@ returns-then-is_empty-clause-ok g c =
     let valued : valued_keys keys ≡ [] = sym c.in_ok-valued.ensures.valued ∙ none_lent items none in
     let many : 1 < length keys = rw (length-map lent (λ key. value_of key.now)) c.requires.several in
     let rows = c.len.ensures.value ∙ ap (λ key. length (value_of key.now).slots) c.index-keys-0-then-is_empty.is ∙ first_lent lent first (omega (arith, c.requires.several)) in
-    IfOk-weaker c.one_run.result _ _ (λ groups h. h ∙ ap (λ n. run_groups (null_rows n)) rows
-    ∙ tuples_by_none keys many c.requires.aligned c.in_ok-valued.ensures.nulls c.args.multithreaded c.args.sorted c.args.pool.now valued) c.one_run.ensures.ok
+    c.in_ok-groups.ensures.ok ∙ ap (λ n. run_groups (null_rows n)) rows
+    ∙ tuples_by_none keys many c.requires.aligned c.in_ok-valued.ensures.nulls c.args.multithreaded c.args.sorted c.args.pool.now valued
+
+pub returns-then-is_empty-clause-path : goal.returns-then-is_empty-clause-path
+returns-then-is_empty-clause-path g c =
+    let keys = keys_in c.args.keys.now in
+    let items = c.in_ok-valued.valued.items in
+    let pool = c.args.pool.now in
+    let none : length items ≡ 0 = search rules in
+    let valued : valued_keys keys ≡ [] = sym c.in_ok-valued.ensures.valued ∙ none_lent items none in
+    sym (ap (λ ks. path_by_keys ks (frame_height keys) c.args.multithreaded (workers_of pool) (threshold_of pool)) valued)
 
 pub group_row_bytes-requires-clause-aligned : goal.group_row_bytes-requires-clause-aligned
 group_row_bytes-requires-clause-aligned g c κs within =
@@ -55,9 +65,23 @@ returns-clause-ok g c =
     let some : 0 < length items = search rules in
     let some_keys : 0 < length (valued_keys keys) = subst (λ ks. 0 < length ks) valued (rw (length-map items (λ key. value_of key.now)) some) in
     let many : 1 < length keys = rw (length-map lent (λ key. value_of key.now)) c.requires.several in
-    IfOk-weaker c.group_row_bytes.result _ _ (λ groups h. h.0 ∙ ap (λ ks. tuples_of_bytes ks c.args.multithreaded c.args.sorted c.args.pool.now) bytes
-    ∙ tuples_by_bytes keys many c.requires.aligned c.in_ok-valued.ensures.nulls c.args.multithreaded c.args.sorted c.args.pool.now some_keys (subst AreToldByRows bytes h.1))
-    (both_ok c.group_row_bytes.result _ _ c.group_row_bytes.ensures.ok c.group_row_bytes.ensures.told)
+    c.in_ok-groups-2.ensures.ok ∙ ap (λ ks. tuples_of_bytes ks c.args.multithreaded c.args.sorted c.args.pool.now) bytes
+    ∙ tuples_by_bytes keys many c.requires.aligned c.in_ok-valued.ensures.nulls c.args.multithreaded c.args.sorted c.args.pool.now some_keys (subst AreToldByRows bytes c.in_ok-groups-2.ensures.told)
+
+pub returns-clause-path : goal.returns-clause-path
+returns-clause-path g c =
+    let lent = c.args.keys.now in
+    let keys = keys_in lent in
+    let items = c.in_ok-valued.valued.items in
+    let valued = c.in_ok-valued.ensures.valued in
+    let pool = c.args.pool.now in
+    let m = c.args.multithreaded in
+    let some : 0 < length items = search rules in
+    let some_keys : 0 < length (valued_keys keys) = subst (λ ks. 0 < length ks) valued (rw (length-map items (λ key. value_of key.now)) some) in
+    let rows = c.len-2.ensures.value ∙ ap (λ key. length (value_of key.now).slots) c.index-keys-0-2.is ∙ first_lent lent c.index-keys-0-2.result (omega (arith, c.requires.several)) in
+    c.from.ensures ∙ c.choose_path-path.ensures
+    ∙ ap (λ n. hashed_path true n m (workers_of pool) (threshold_of pool)) rows
+    ∙ sym (some_path (valued_keys keys) (frame_height keys) m (workers_of pool) (threshold_of pool) some_keys)
 
 pub returns-clause-formed : goal.returns-clause-formed
 returns-clause-formed g c =
@@ -67,4 +91,4 @@ returns-clause-formed g c =
     let some : 0 < length items = search rules in
     let some_keys : 0 < length (valued_keys keys) = subst (λ ks. 0 < length ks) valued (rw (length-map items (λ key. value_of key.now)) some) in
     let high = ap frame_height (ap keys_in c.deref.ensures.value ∙ valued) ∙ valued_height keys c.requires.aligned some_keys in
-    IfOk-weaker c.group_row_bytes.result _ _ (λ groups h. subst (λ n. IsWellFormed n (groups_of groups).pairs) high h) c.group_row_bytes.ensures.formed
+    subst (λ n. IsWellFormed n (groups_of c.in_ok-groups-2.groups).pairs) high c.in_ok-groups-2.ensures.formed

@@ -3,7 +3,8 @@ use Rattle.std.proofs.lemmas.List.{map-append, map_more, take_all}
 use Rattle.std.proofs.lemmas.List.Elements.{All-nil, All-push}
 use Rattle.gb_rows.specs.Lent.{keys_in}
 use Rattle.gb_series.specs.Series.{value_of}
-use Rattle.gb_paths.specs.Tuples.{IsNullUnlessValued, valued_keys}
+use Rattle.gb_defs.specs.Notes.{valued_keys}
+use Rattle.gb_paths.specs.Tuples.{IsNullUnlessValued}
 use Rattle.gb_paths.proofs.SeveralLemmas.{valued_no, valued_yes}
 use Rattle.gb_paths.proofs.by_keys.valued_keys.Goals as goal
 use Rattle.gb_paths.proofs.by_keys.valued_keys.Goals.{then-is_valued+in_ok-push, else-is_valued}

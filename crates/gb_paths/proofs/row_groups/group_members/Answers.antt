@@ -3,7 +3,7 @@ use Rattle.std.proofs.lemmas.List.{length-map}
 use Rattle.std.proofs.lemmas.List.FromFn.{length-map-range_with_len}
 use Rattle.smallvec.specs.SmallVec.{SmallVec}
 use Rattle.gb_groups.specs.Groups.{lists_of}
-use Rattle.gb_paths.specs.Numbers.{lists_by, rows_of}
+use Rattle.gb_groups.specs.Numbers.{lists_by, rows_of}
 use Rattle.gb_paths.proofs.MemberLemmas.{few_members}
 use Rattle.gb_paths.proofs.row_groups.group_members.Goals as goal
 

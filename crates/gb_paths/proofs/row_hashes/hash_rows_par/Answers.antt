@@ -5,9 +5,9 @@ use Rattle.gb_defs.specs.Flat.{range_at}
 use Rattle.gb_defs.specs.Rows.{Rows}
 use Rattle.gb_defs.proofs.PartitionLemmas.{map_flat_map}
 use Rattle.gb_flat.specs.Buffers.{joined}
+use Rattle.gb_flat.proofs.RangeLemmas.{ranges_joined}
 use Rattle.gb_paths.specs.Hashes.{chunk_at, chunks_from, hash_in, items_of}
 use Rattle.gb_paths.proofs.HashLemmas.{chunks_are, chunks_hashed}
-use Rattle.gb_paths.proofs.JoinLemmas.{ranges_joined}
 use Rattle.gb_paths.proofs.row_hashes.hash_rows_par.Goals as goal
 
 -- the chunks that each worker made are all chunks

@@ -1,7 +1,7 @@
 use Rattle.std.proofs.Common.{arith, ◌≡◌, ◌<◌, ◌≤◌, length, ap, sym, ◌∙◌}
 use Rattle.std.proofs.lemmas.List.{take_all}
 use Rattle.gb_defs.specs.Hash.{partition_of}
-use Rattle.gb_paths.specs.Numbers.{counts_by}
+use Rattle.gb_groups.specs.Numbers.{counts_by}
 use Rattle.gb_paths.specs.Partitions.{partitions_by, share_of}
 use Rattle.gb_paths.proofs.MemberLemmas.{partition_counted, partitions_counted, within_more}
 use Rattle.gb_paths.proofs.HashLemmas.{share_long, share_read}

@@ -1,5 +1,5 @@
 use Rattle.std.proofs.Common.{◌≡◌, ℕ, get_or, take}
-use Rattle.gb_paths.specs.Numbers.{count_of}
+use Rattle.gb_groups.specs.Numbers.{count_of}
 use Rattle.gb_paths.specs.Partitions.{AreWithin, partitions_by, share_of}
 use Rattle.gb_paths.proofs.row_partitions.count_partitions.Given as goal
 

@@ -3,10 +3,10 @@ use Rattle.std.specs.List.{range_with_len}
 use Rattle.std.proofs.lemmas.List.{get_or-map, length-map}
 use Rattle.std.proofs.lemmas.List.FromFn.{get_or-range_with_len, length-range_with_len}
 use Rattle.gb_defs.specs.Hash.{partition_of}
-use Rattle.gb_paths.specs.Numbers.{lists_by}
+use Rattle.gb_groups.specs.Numbers.{lists_by}
 use Rattle.gb_paths.specs.Partitions.{partitions_by, share_of}
 use Rattle.gb_paths.proofs.HashLemmas.{share_long, share_read}
-use Rattle.gb_paths.proofs.NumberLemmas.{filled_none, filled_room, filled_more, filled_all}
+use Rattle.gb_groups.proofs.NumberLemmas.{filled_none, filled_room, filled_more, filled_all}
 use Rattle.gb_paths.proofs.row_partitions.fill_partitions.Goals as goal
 
 module _ (n : ℕ) (hashes : List ℕ) (share : ℕ × ℕ) (inside : share.0 + share.1 ≤ length hashes) where

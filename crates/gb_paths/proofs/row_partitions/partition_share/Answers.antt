@@ -4,9 +4,9 @@ use Rattle.std.proofs.lemmas.List.FromFn.{length-map-range_with_len}
 use Rattle.std.proofs.lemmas.Slice.Zip.{AllZip-long}
 use Rattle.smallvec.specs.SmallVec.{SmallVec}
 use Rattle.gb_groups.specs.Groups.{lists_of}
-use Rattle.gb_paths.specs.Numbers.{count_of, counts_by, lists_by, IsRoomFor}
+use Rattle.gb_groups.specs.Numbers.{count_of, counts_by, lists_by, IsRoomFor}
 use Rattle.gb_paths.specs.Partitions.{AreDealt, AreWithin, partitions_by, share_of}
-use Rattle.gb_paths.proofs.NumberLemmas.{refilled}
+use Rattle.gb_groups.proofs.NumberLemmas.{refilled}
 use Rattle.gb_paths.proofs.row_partitions.partition_share.Goals as goal
 
 as_many : (numbers counts : List ℕ) (n : ℕ) (lists : List (SmallVec ℕ)) → counts ≡ counts_by numbers n → AllZip IsRoomFor counts lists → length lists ≡ n

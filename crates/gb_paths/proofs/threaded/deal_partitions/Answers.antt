@@ -1,9 +1,9 @@
 use Rattle.std.proofs.Common.{arith, ◌∙◌, ap}
 use Rattle.gb_defs.proofs.PartitionLemmas.{map_flat_map}
+use Rattle.gb_flat.proofs.RangeLemmas.{ranges_joined}
 use Rattle.gb_groups.specs.Groups.{pairs_of}
 use Rattle.gb_paths.specs.Numbers.{groups_among}
 use Rattle.gb_paths.specs.Partitions.{groups_of_parts, list_joined}
-use Rattle.gb_paths.proofs.JoinLemmas.{ranges_joined}
 use Rattle.gb_paths.proofs.threaded.deal_partitions.Goals as goal
 
 pub returns-clause-ok : goal.returns-clause-ok

@@ -1,17 +1,19 @@
-use Rattle.std.proofs.Common.{◌<◌, ◌∙◌, subst, sym, ℕ, map}
+use Rattle.std.proofs.Common.{◌<◌, ◌∙◌, ap, subst, sym, true, ℕ, map}
 use Rattle.std.proofs.lemmas.List.{length-map}
 use Rattle.std.proofs.lemmas.Simd.{map-map}
-use Rattle.std.proofs.lemmas.Result.{err_from_is_err_and, IfOk-weaker, IfErr-weaker}
-use Rattle.gb_defs.specs.Column.{content}
+use Rattle.std.proofs.lemmas.Result.{err_from_is_err_and}
+use Rattle.gb_defs.specs.Column.{content, frame_height}
 use Rattle.gb_defs.specs.Fault.{rows_fault}
 use Rattle.gb_defs.specs.Groups.{HasRowNumbers}
+use Rattle.gb_defs.specs.Notes.{detected, keys_path, trace_of}
 use Rattle.gb_base.specs.PlSmallStr.{name_of}
 use Rattle.gb_base.specs.PolarsError.{Explains, cause_of}
+use Rattle.gb_base.specs.Pool.{threshold_of, workers_of}
 use Rattle.gb_groups.specs.GroupsType.{groups_of}
 use Rattle.gb_rows.specs.Lent.{keys_in}
 use Rattle.gb_series.specs.Series.{value_of}
 use Rattle.gb_run.specs.Request.{aggs_of, names_of}
-use Rattle.gb_run.proofs.GroupingLemmas.{found_some, keys_aligned, keys_answer, keys_few, keys_firsts, keys_height, keys_lists, keys_refused, refused_height, refused_missing, refused_unfit}
+use Rattle.gb_run.proofs.GroupingLemmas.{found_some, keys_aligned, keys_answer, keys_counted, keys_few, keys_firsts, keys_height, keys_lists, keys_refused, refused_height, refused_missing, refused_unfit}
 use Rattle.gb_run.proofs.grouping.group_by_found.Goals as goal
 
 pub returns-in_err-check_height-clause-err : goal.returns-in_err-check_height-clause-err
@@ -90,6 +92,19 @@ returns-in_err-columns-clause-err g c =
     rw (p.1, p.2) (refused_unfit frame c.height.ensures.frame names keys c.requires.found some (aggs_of c.args.aggs.now)
     (subst HasRowNumbers c.height.ensures.value c.in_ok-check_height.ensures.ok) c.in_ok-check_columns.ensures.ok (cause_of c.in_err-columns.field-0.0) c.in_err-columns.ensures.err)
 
+pub returns-in_err-answer-clause-err : goal.returns-in_err-answer-clause-err
+returns-in_err-answer-clause-err g c =
+    let frame = c.args.frame.now in
+    let names = names_of c.args.by.now in
+    let keys = keys_in c.args.keys.now in
+    let columns = c.in_ok-columns.columns.items in
+    let some = found_some frame names keys c.requires.found (rw (length-map c.args.by.now name_of) c.requires.some) in
+    let p = err_from_is_err_and c.from_residual-in_err-answer.result c.from_residual-in_err-answer.ensures.1 in
+    rw (p.1, p.2) (keys_refused frame c.height.ensures.frame names keys c.requires.found some
+    (groups_of c.in_ok-groups.groups) c.in_ok-groups.ensures.ok (aggs_of c.args.aggs.now) (subst HasRowNumbers c.height.ensures.value c.in_ok-check_height.ensures.ok)
+    c.in_ok-check_columns.ensures.ok c.in_ok-columns.ensures.fits (map value_of columns) (map-map content value_of columns ∙ c.in_ok-columns.ensures.ok)
+    (cause_of c.in_err-answer.field-0.0) c.in_err-answer.ensures.err)
+
 pub returns-clause-ok : goal.returns-clause-ok
 returns-clause-ok g c =
     let frame = c.args.frame.now in
@@ -97,17 +112,29 @@ returns-clause-ok g c =
     let keys = keys_in c.args.keys.now in
     let columns = c.in_ok-columns.columns.items in
     let some = found_some frame names keys c.requires.found (rw (length-map c.args.by.now name_of) c.requires.some) in
-    IfOk-weaker c.new.result _ _ (λ answer h. rw h.0 (keys_answer frame c.height.ensures.frame names keys c.requires.found some
+    let made = c.in_ok-answer.ensures.ok in
+    rw made.0 (keys_answer frame c.height.ensures.frame names keys c.requires.found some
     (groups_of c.in_ok-groups.groups) c.in_ok-groups.ensures.ok (aggs_of c.args.aggs.now) (subst HasRowNumbers c.height.ensures.value c.in_ok-check_height.ensures.ok)
-    c.in_ok-check_columns.ensures.ok c.in_ok-columns.ensures.fits (map value_of columns) (map-map content value_of columns ∙ c.in_ok-columns.ensures.ok) h.1)) c.new.ensures.ok
+    c.in_ok-check_columns.ensures.ok c.in_ok-columns.ensures.fits (map value_of columns) (map-map content value_of columns ∙ c.in_ok-columns.ensures.ok) made.1)
 
-pub returns-clause-err : goal.returns-clause-err
-returns-clause-err g c =
+pub returns-clause-traced : goal.returns-clause-traced
+returns-clause-traced g c =
     let frame = c.args.frame.now in
     let names = names_of c.args.by.now in
     let keys = keys_in c.args.keys.now in
-    let columns = c.in_ok-columns.columns.items in
+    let pool = c.args.pool.now in
     let some = found_some frame names keys c.requires.found (rw (length-map c.args.by.now name_of) c.requires.some) in
-    IfErr-weaker c.new.result _ _ (λ e h. keys_refused frame c.height.ensures.frame names keys c.requires.found some
-    (groups_of c.in_ok-groups.groups) c.in_ok-groups.ensures.ok (aggs_of c.args.aggs.now) (subst HasRowNumbers c.height.ensures.value c.in_ok-check_height.ensures.ok)
-    c.in_ok-check_columns.ensures.ok c.in_ok-columns.ensures.fits (map value_of columns) (map-map content value_of columns ∙ c.in_ok-columns.ensures.ok) (cause_of e) h) c.new.ensures.err
+    let way = c.in_ok-groups.ensures.path in
+    let path = keys_path (detected way.flag keys) true (workers_of pool) (threshold_of pool) in
+    let high = c.height-2.ensures.value ∙ sym (keys_height frame c.height.ensures.frame names keys c.requires.found some) in
+    let many = c.len.ensures ∙ keys_counted frame c.height.ensures.frame names keys c.requires.found some (groups_of c.in_ok-groups.groups) c.in_ok-groups.ensures.ok in
+    record {
+      keys = keys;
+      found = c.requires.found;
+      flag = way.flag;
+      ordered = way.ordered;
+      is = c.new-trace.ensures
+          ∙ ap (λ p. trace_of p c.height-2.result c.len.result) way.path_is
+          ∙ ap (λ n. trace_of path n c.len.result) high
+          ∙ ap (trace_of path (frame_height keys)) many;
+    }

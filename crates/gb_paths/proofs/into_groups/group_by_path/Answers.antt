@@ -1,0 +1,24 @@
+use Rattle.std.proofs.Common.{◌∙◌}
+use Rattle.std.proofs.lemmas.Result.{IfOk-weaker}
+use Rattle.gb_base.specs.Pool.{seed_of}
+use Rattle.gb_paths.specs.Keys.{StandFor}
+use Rattle.gb_paths.proofs.TupleLemmas.{keys_grouped, keys_together}
+use Rattle.gb_paths.proofs.into_groups.group_by_path.Goals as goal
+
+pub returns-clause-ok : goal.returns-clause-ok
+returns-clause-ok g c =
+    let column = g.C.SeriesTrait.value c.args.column.now in
+    let stand : StandFor column c.in-Some.keys = rw c.in-Some.is at c.in_ok-keys.ensures.ok in
+    IfOk-weaker c.group_keys.result _ _ (λ groups h. h ∙ keys_grouped column c.in-Some.keys c.args.path c.args.sorted c.args.pool.now stand) c.group_keys.ensures.ok
+
+pub group_keys-requires-clause-few : goal.group_keys-requires-clause-few
+group_keys-requires-clause-few g c κs within =
+    let column = g.C.SeriesTrait.value c.args.column.now in
+    let stand : StandFor column c.in-Some.keys = rw c.in-Some.is at c.in_ok-keys.ensures.ok in
+    rw (stand.rows (seed_of c.args.pool.now)).many c.requires.few
+
+pub group_keys-requires-clause-together : goal.group_keys-requires-clause-together
+group_keys-requires-clause-together g c κs within =
+    let column = g.C.SeriesTrait.value c.args.column.now in
+    let stand : StandFor column c.in-Some.keys = rw c.in-Some.is at c.in_ok-keys.ensures.ok in
+    λ runs. keys_together column c.in-Some.keys (seed_of c.args.pool.now) stand (c.requires.together runs)

@@ -1,0 +1,318 @@
+//! The keys of a column's rows, in one of a few forms, and what they are to a grouping.
+
+ghost use Rattle.std.specs.Prelude.{◌≡◌, ◌≢◌, map, IfOk, IfErr, IfSome, MatchOption};
+ghost use Rattle.gb_defs.specs.Path.{Codes, Parts, kind_of};
+ghost use Rattle.gb_defs.specs.Slot as slot;
+ghost use Rattle.gb_base.specs.PlSmallStr.{IsNoMemory};
+ghost use Rattle.gb_series.specs.Series.{value_of};
+ghost use Rattle.gb_paths.specs.Keys.{AreCodesOf, HasNoCodes, HasNoValues, StandFor, kind_value};
+
+use crate::plain_words::plain_words;
+use gb_base::error::PolarsResult;
+use gb_cols::binary::BinaryOffsetChunked;
+use gb_cols::chunked::{ChunkedArray, StringChunked};
+use gb_cols::null::NullChunked;
+use gb_cols::primitive::UInt32Chunked;
+use gb_cols::series_trait::SeriesTrait;
+use gb_cols::undo_append::UndoAppend;
+use gb_flat_series::of_column;
+use gb_flat_series::series::FlatSeries;
+use gb_hash::list_rows::TextChunks;
+use gb_logical::categorical::CategoricalChunked;
+use gb_logical::logical::{Logical, LogicalKind};
+use gb_numbers::numeric::{Native, PolarsNumericType};
+use gb_rows::unordered::encode_rows_unordered;
+use gb_series::series::Series;
+use gb_values::binary::{Binary, BinaryOffset};
+use gb_values::boolean::FlagValues;
+use gb_values::bytes::ByteValues;
+use gb_values::nullable::Values;
+use gb_values::primitive::NumberValues;
+use gb_values::utf8::TextValues;
+use std::slice;
+
+/// What the values of a column are to a grouping.
+#[derive(Clone, Copy, Debug, PartialEq, Eq)]
+pub enum KeyKind {
+    /// Nulls alone.
+    NoValues,
+    Numbers,
+    /// Codes of categories.
+    Codes,
+    /// Texts and other bytes.
+    ByteLists,
+    /// Values that hold others.
+    Parts,
+}
+
+/// A key for each row, in a form that no later loop looks a chunk up for. A null has none.
+#[derive(Drop)]
+pub enum Keys<'a> {
+    /// Numbers of at most 64 bits with their sign extended, none of them null.
+    Plain(Vec<u64>),
+    /// Such numbers, any of which may be null.
+    Words(Vec<Option<u64>>),
+    /// Codes of categories, none of them null.
+    PlainCodes(Vec<u64>),
+    /// Such codes, any of which may be null.
+    Codes(Vec<Option<u64>>),
+    /// Numbers of 128 bits.
+    Wide(Vec<Option<u128>>),
+    /// Texts as they lie, none of them null.
+    Texts(TextChunks<'a>),
+    /// Texts and other bytes.
+    Bytes(Vec<Option<&'a [u8]>>),
+    /// The bytes of rows, of slots that hold others or of several columns.
+    RowBytes(BinaryOffsetChunked),
+}
+
+/// Values that the rows of a column have keys by.
+pub trait KeyValues: Values {
+    /// The keys of a column of such values, by one pass over its chunks. What stands before the first null
+    /// may be read twice.
+    fn keys_of(column: &ChunkedArray<Self>) -> PolarsResult<Keys<'_>>
+        ensures ok { IfOk result (λ keys. StandFor column.now keys) }
+        ensures err { IfErr result IsNoMemory };
+
+    /// What they are to a grouping. They are no codes.
+    fn key_kind() -> KeyKind
+        ensures kind { kind_value result ≡ kind_of Self.dtype }
+        ensures uncoded { kind_of Self.dtype ≢ Codes };
+}
+
+impl<T: PolarsNumericType> KeyValues for NumberValues<T> {
+    fn keys_of(column: &ChunkedArray<NumberValues<T>>) -> PolarsResult<Keys<'_>> {
+        // The call tells the column's type.
+        let _ = column.allocator();
+        if T::Native::is_wide() {
+            return Ok(Keys::Wide(column.wide_words()?));
+        }
+        match plain_words(column)? {
+            Some(words) => Ok(Keys::Plain(words)),
+            None => Ok(Keys::Words(column.words()?)),
+        }
+    }
+
+    fn key_kind() -> KeyKind {
+        KeyKind::Numbers
+    }
+}
+
+impl KeyValues for FlagValues {
+    fn keys_of(column: &ChunkedArray<FlagValues>) -> PolarsResult<Keys<'_>> {
+        let _ = column.allocator();
+        Ok(Keys::Words(column.words()?))
+    }
+
+    fn key_kind() -> KeyKind {
+        KeyKind::Numbers
+    }
+}
+
+impl KeyValues for TextValues {
+    fn keys_of(column: &ChunkedArray<TextValues>) -> PolarsResult<Keys<'_>> {
+        let _ = column.allocator();
+        match text_chunks(column)? {
+            Some(texts) => Ok(Keys::Texts(texts)),
+            None => Ok(Keys::Bytes(column.byte_slices()?)),
+        }
+    }
+
+    fn key_kind() -> KeyKind {
+        KeyKind::ByteLists
+    }
+}
+
+// The texts of a column as they lie, where none is null.
+fn text_chunks(column: &StringChunked) -> PolarsResult<Option<TextChunks<'_>>>
+    ensures ok { IfOk result (λ found. IfSome found (λ texts.
+        map (λ text. slot.Bytes text) texts ≡ column.now.slots)) }
+    ensures err { IfErr result IsNoMemory }
+{
+    let mut texts = TextChunks::new(column.allocator());
+    let (earlier, last) = column.chunks();
+    for chunk in earlier {
+        let Some(values) = chunk.all_valid() else {
+            return Ok(None);
+        };
+        texts.push(values)?;
+    }
+    let Some(values) = last.all_valid() else {
+        return Ok(None);
+    };
+    texts.push(values)?;
+    Ok(Some(texts))
+}
+
+impl KeyValues for ByteValues<Binary> {
+    fn keys_of(column: &ChunkedArray<ByteValues<Binary>>) -> PolarsResult<Keys<'_>> {
+        let _ = column.allocator();
+        Ok(Keys::Bytes(column.byte_slices()?))
+    }
+
+    fn key_kind() -> KeyKind {
+        KeyKind::ByteLists
+    }
+}
+
+impl KeyValues for ByteValues<BinaryOffset> {
+    fn keys_of(column: &ChunkedArray<ByteValues<BinaryOffset>>) -> PolarsResult<Keys<'_>> {
+        let _ = column.allocator();
+        Ok(Keys::Bytes(column.byte_slices()?))
+    }
+
+    fn key_kind() -> KeyKind {
+        KeyKind::ByteLists
+    }
+}
+
+/// A column whose rows have keys.
+pub trait KeyColumn: UndoAppend {
+    /// What its values are to a grouping.
+    fn key_kind(&self) -> KeyKind
+        ensures { kind_value result ≡ kind_of (Self.value self.now).dtype };
+
+    /// The codes of a column of categories, and how many texts they have.
+    fn codes(&self) -> Option<(&UInt32Chunked, usize)>
+        ensures { let column = Self.value self.now in MatchOption result (HasNoCodes column)
+            (λ found. AreCodesOf column found.0.now found.1) };
+
+    /// The keys, as `KeyValues` gives them: none where the column's type has no values.
+    fn keys(&self) -> PolarsResult<Option<Keys<'_>>>
+        ensures ok { let column = Self.value self.now in
+            IfOk result (λ keys. MatchOption keys (HasNoValues column) (StandFor column)) }
+        ensures err { IfErr result IsNoMemory };
+}
+
+impl<V: KeyValues> KeyColumn for ChunkedArray<V> {
+    fn key_kind(&self) -> KeyKind {
+        // The call tells the column's type.
+        let _ = self.allocator();
+        V::key_kind()
+    }
+
+    fn codes(&self) -> Option<(&UInt32Chunked, usize)> {
+        // The calls tell the column's type, and that its values are no codes.
+        let _ = self.allocator();
+        let _ = V::key_kind();
+        None
+    }
+
+    fn keys(&self) -> PolarsResult<Option<Keys<'_>>> {
+        Ok(Some(V::keys_of(self)?))
+    }
+}
+
+impl<K: LogicalKind> KeyColumn for Logical<K> {
+    fn key_kind(&self) -> KeyKind {
+        // The call tells the column's type.
+        let _ = self.kind();
+        KeyKind::Numbers
+    }
+
+    fn codes(&self) -> Option<(&UInt32Chunked, usize)> {
+        let _ = self.kind();
+        None
+    }
+
+    fn keys(&self) -> PolarsResult<Option<Keys<'_>>> {
+        // The call tells the column's type.
+        let _ = self.kind();
+        self.physical().keys()
+    }
+}
+
+impl KeyColumn for NullChunked {
+    fn key_kind(&self) -> KeyKind {
+        // The call tells the column's type.
+        let _ = self.allocator();
+        KeyKind::NoValues
+    }
+
+    fn codes(&self) -> Option<(&UInt32Chunked, usize)> {
+        let _ = self.allocator();
+        None
+    }
+
+    fn keys(&self) -> PolarsResult<Option<Keys<'_>>> {
+        let _ = self.allocator();
+        Ok(None)
+    }
+}
+
+impl KeyColumn for CategoricalChunked {
+    fn key_kind(&self) -> KeyKind {
+        // The call tells the column's type.
+        let _ = self.get_rev_map();
+        KeyKind::Codes
+    }
+
+    fn codes(&self) -> Option<(&UInt32Chunked, usize)> {
+        Some((self.physical(), self.get_rev_map().len()))
+    }
+
+    fn keys(&self) -> PolarsResult<Option<Keys<'_>>> {
+        // The call tells the column's type.
+        let _ = self.get_rev_map();
+        let physical = self.physical();
+        match plain_words(physical)? {
+            Some(codes) => Ok(Some(Keys::PlainCodes(codes))),
+            None => Ok(Some(Keys::Codes(physical.words()?))),
+        }
+    }
+}
+
+impl KeyColumn for FlatSeries {
+    fn key_kind(&self) -> KeyKind {
+        of_column!(self, column => column.key_kind())
+    }
+
+    fn codes(&self) -> Option<(&UInt32Chunked, usize)> {
+        of_column!(self, column => column.codes())
+    }
+
+    fn keys(&self) -> PolarsResult<Option<Keys<'_>>> {
+        of_column!(self, column => column.keys())
+    }
+}
+
+/// Rows of lists, arrays and structs have their bytes as keys.
+impl KeyColumn for Series {
+    #[tactic(auto, using(crate::proofs::KeyFormLemmas::parts_by_variant))]
+    fn key_kind(&self) -> KeyKind {
+        self.tell_variant();
+        match self {
+            Series::Flat(column) => column.key_kind(),
+            _ => KeyKind::Parts,
+        }
+    }
+
+    #[tactic(auto, using(crate::proofs::KeyFormLemmas::parts_by_variant))]
+    fn codes(&self) -> Option<(&UInt32Chunked, usize)> {
+        self.tell_variant();
+        match self {
+            Series::Flat(column) => column.codes(),
+            _ => None,
+        }
+    }
+
+    #[tactic(auto, using(crate::proofs::KeyFormLemmas::parts_by_variant))]
+    fn keys(&self) -> PolarsResult<Option<Keys<'_>>> {
+        self.tell_variant();
+        match self {
+            Series::Flat(column) => column.keys(),
+            _ => Ok(Some(nested_keys(self)?)),
+        }
+    }
+}
+
+// The keys of a column of lists, arrays or structs.
+#[tactic(auto, using(crate::proofs::RowBytesLemmas::rows_stand_for))]
+fn nested_keys(key: &Series) -> PolarsResult<Keys<'_>>
+    requires { kind_of (value_of key.now).dtype ≡ Parts }
+    ensures ok { IfOk result (λ keys. StandFor (value_of key.now) keys) }
+    ensures err { IfErr result IsNoMemory }
+{
+    let rows = encode_rows_unordered(key.allocator(), slice::from_ref(key))?;
+    Ok(Keys::RowBytes(rows))
+}
