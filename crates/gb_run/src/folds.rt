@@ -20,7 +20,6 @@ ghost use Rattle.gb_run.specs.Request.{agg_of, method_of};
 pub mod by_workers;
 pub mod group_part;
 mod group_sums;
-pub mod near_chunk;
 pub mod number_fold;
 
 use crate::words::{Agg, GroupByMethod};
@@ -66,12 +65,10 @@ pub fn aggregate(
 }
 
 // Whether an aggregate over so many groups reads a column's chunks as they lie: one that looks at no slot, and a
-// sum where looking for chunks, for each group from the first on, takes less than a copy.
+// sum where passing the chunks once for each group takes less than a copy.
 fn reads_chunks(agg: &Agg, chunks: usize, rows: usize, groups: usize) -> bool {
     match agg.method {
-        GroupByMethod::Sum => {
-            groups.saturating_mul(chunks).saturating_mul(chunks) <= rows.saturating_mul(8)
-        }
+        GroupByMethod::Sum => groups.saturating_mul(chunks) <= rows.saturating_mul(8),
         GroupByMethod::Count { include_nulls } => include_nulls,
     }
 }

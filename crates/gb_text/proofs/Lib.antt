@@ -1,3 +1,4 @@
+pub mod AsciiLemmas
 pub mod AskedLemmas
 pub mod BuilderLemmas
 pub mod BuiltLemmas

@@ -9,6 +9,7 @@ ghost use Rattle.gb_text.specs.Stream.{IsFilled};
 ghost use Rattle.gb_text.specs.declared.status.Status.TheVariants as status;
 
 use crate::status::Status;
+use crate::table::ascii::all_ascii;
 use gb_base::device::{Failed, Sink, Source};
 
 /// How many bytes are asked for at a time.
@@ -69,7 +70,7 @@ pub fn fill<S: Source>(
             return Ok(Progress {
                 read: now,
                 ended: false,
-                ascii: held.is_ascii(),
+                ascii: all_ascii(held),
             });
         }
         let count = read_piece(source, held)?;
@@ -77,7 +78,7 @@ pub fn fill<S: Source>(
             return Ok(Progress {
                 read: now,
                 ended: true,
-                ascii: held.is_ascii(),
+                ascii: all_ascii(held),
             });
         }
         now += count as u64;

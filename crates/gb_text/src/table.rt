@@ -1,6 +1,7 @@
 //! A table's text, read as a frame: in place where it is plain, and else by `csv`, which tells each
 //! fault at its place.
 
+pub mod ascii;
 pub mod blocks;
 mod builder;
 mod cell;

@@ -71,9 +71,9 @@ fn count_high(text: &[u8], bound: u8) -> usize
     marks.trailing_zeros() as usize
 }
 
-// So many of the next 16 bytes stand before the first that is at least a bound.
+/// So many of the next 16 bytes stand before the first that is at least a bound.
 #[inline(always)]
-fn count_low(text: &[u8], bound: u8) -> usize
+pub fn count_low(text: &[u8], bound: u8) -> usize
     requires { 16 ≤ length text.now }
     ensures within { result ≤ 16 }
     ensures low { (k : ℕ) → k < result → slice_index text.now k < bound }

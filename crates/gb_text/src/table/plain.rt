@@ -15,6 +15,7 @@ ghost use Rattle.gb_text.specs.Plain.{BeginsWith, TakesFront, TakesLine};
 ghost use Rattle.gb_text.specs.Refusal.{IsRefusedTable};
 
 use crate::status::TableError;
+use crate::table::ascii::all_ascii;
 use crate::table::builder::ColumnBuilder;
 use crate::table::cell::{cell_of, digits_cell};
 use crate::table::frame_of;
@@ -160,7 +161,7 @@ pub fn plain_table<R: Threads + Sync>(
         names,
         null_word,
         text,
-        ascii: text.is_ascii(),
+        ascii: all_ascii(text),
     };
     let Some(columns) = lines.read_to(rt, alloc, text.len(), parts)? else {
         return Ok(None);

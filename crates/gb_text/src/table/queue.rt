@@ -14,6 +14,7 @@ ghost use Rattle.gb_text.specs.declared.status.Status.TheVariants as status;
 
 use crate::status::Status;
 use crate::streams::{Progress, fill};
+use crate::table::ascii::all_ascii;
 use crate::table::blocks::{FIRST_BLOCK, Reading, finish_all, keep_from, last_line};
 use crate::table::grown::{GrownColumn, append_block};
 use crate::table::header::columns_of_header;
@@ -304,7 +305,7 @@ fn seen(now: Progress, held: &[u8]) -> Progress
     Progress {
         read: now.read,
         ended: now.ended,
-        ascii: held.is_ascii(),
+        ascii: all_ascii(held),
     }
 }
 
