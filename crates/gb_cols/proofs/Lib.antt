@@ -4,6 +4,7 @@ pub mod ChunkedLemmas
 pub mod CopyLemmas
 pub mod KeptLemmas
 pub mod KeyLemmas
+pub mod NearLemmas
 pub mod NullLemmas
 pub mod NullSliceLemmas
 pub mod OrderLemmas

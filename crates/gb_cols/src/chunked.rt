@@ -7,6 +7,7 @@ ghost use Rattle.gb_defs.specs.Slot.{Nil, slot_at};
 ghost use Rattle.gb_cols.specs.Column.{later_place};
 ghost use Rattle.gb_values.specs.SlotOrder.{last_slot, later_slot};
 
+use crate::near_chunk::NearChunk;
 use crate::primitive::UInt32Chunked;
 use crate::series_trait::SeriesTrait;
 use crate::slices::{pop_chunk, push_part, slice_bounds};
@@ -219,8 +220,9 @@ impl<V: Values> SeriesTrait for ChunkedArray<V> {
     fn take(&self, rows: &[IdxSize]) -> PolarsResult<Self> {
         let mut taken: NullableArray<V> = NullableArray::empty(self.allocator());
         taken.reserve(rows.len())?;
+        let mut near = NearChunk::new(self);
         for row in rows {
-            let (chunk, place) = self.locate(*row as usize);
+            let (chunk, place) = near.locate(*row as usize);
             taken.push_from(chunk, place)?;
         }
         let name = self.name.try_clone()?;

@@ -7,6 +7,7 @@ pub mod boolean;
 pub mod bytes;
 pub mod chunked;
 pub mod codes;
+pub mod near_chunk;
 pub mod null;
 pub mod primitive;
 pub mod series_trait;

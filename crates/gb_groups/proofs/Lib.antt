@@ -1,5 +1,6 @@
 pub mod FirstLemmas
 pub mod ItemLemmas
+pub mod BucketLemmas
 pub mod NumberLemmas
 pub mod OrderLemmas
 pub mod PartLemmas

@@ -2,18 +2,18 @@
 use Rattle.std.proofs.Common.{◌≡◌, ℕ, ◌+◌, ◌<◌, ◌≤◌, zero, suc, false, cond, inl, inr, eqb, List, [], ◌∷◌, ◌++◌, length, get_or, set, take, drop, map, filter, refl, sym, ◌∙◌, ap, arith}
 use Rattle.std.specs.List.{range_with_len, All, AllZip}
 use Rattle.std.proofs.lemmas.Bool.{cases_Bool, cases_eq, eq-eqb, ne_eqb}
-use Rattle.std.proofs.lemmas.List.{take_more, length-take, append-nil, get_or-map, length-map, take-append-drop, take_all, take-append-le, length-set, get_or-set_same, get_or-set_other}
+use Rattle.std.proofs.lemmas.List.{take_more, length-take, length-append, append-nil, append_assoc, get_or_default, get_or-map, length-map, take-append-drop, take_all, take-append-le, length-set, get_or-set_same, get_or-set_other}
 use Rattle.std.proofs.lemmas.List.Elements.{All-head, All-tail}
 use Rattle.std.proofs.lemmas.List.Sums.{sum_by-cons, sum_by-append, sum_by_push}
 use Rattle.std.proofs.lemmas.List.FromFn.{fill_by_all, get_or-map-range_with_len, length-map-range_with_len, map-range_with_len_more, get_or-range_with_len, length-range_with_len}
 use Rattle.smallvec.specs.SmallVec.{SmallVec}
 use Rattle.gb_defs.specs.Classes.{rows_below}
 use Rattle.gb_groups.specs.Groups.{lists_of}
-use Rattle.gb_groups.specs.Numbers.{rows_of, lists_by, count_of, counts_by, IsRoomFor}
+use Rattle.gb_groups.specs.Numbers.{rows_of, lists_by, count_of, counts_by, HaveMore, HaveRoom, IsRoomFor}
 
 -- ---- rows
 
-rows_push : (rows numbers : List ℕ) (row n k : ℕ) → length numbers ≡ length rows → rows_of (rows ++ row ∷ []) (numbers ++ n ∷ []) k ≡ rows_of rows numbers k ++ cond (eqb n k) (row ∷ []) []
+pub rows_push : (rows numbers : List ℕ) (row n k : ℕ) → length numbers ≡ length rows → rows_of (rows ++ row ∷ []) (numbers ++ n ∷ []) k ≡ rows_of rows numbers k ++ cond (eqb n k) (row ∷ []) []
 unfolding rows_of
 rows_push [] [] row n k each = refl
 rows_push [] (m ∷ ms) row n k each = absurd (omega (arith, each))
@@ -25,7 +25,7 @@ rows_push (r ∷ rs) (m ∷ ms) row n k each =
 abbrev one_if : ℕ → ℕ → ℕ
 one_if k n = cond (eqb n k) 1 0
 
-length-rows_of : (rows numbers : List ℕ) (k : ℕ) → length numbers ≡ length rows → length (rows_of rows numbers k) ≡ count_of numbers k
+pub length-rows_of : (rows numbers : List ℕ) (k : ℕ) → length numbers ≡ length rows → length (rows_of rows numbers k) ≡ count_of numbers k
 unfolding rows_of
 length-rows_of [] [] k each = refl
 length-rows_of [] (m ∷ ms) k each = absurd (omega (arith, each))
@@ -48,7 +48,7 @@ count_take numbers n k =
 
 -- ---- what stands at each place of two lists
 
-all_zip_at : {A B : Type 0} (R : A → B → Type 0) (xs : List A) (ys : List B) → AllZip R xs ys → (k : ℕ) (d : A) (e : B) → k < length ys → R (get_or xs k d) (get_or ys k e)
+pub all_zip_at : {A B : Type 0} (R : A → B → Type 0) (xs : List A) (ys : List B) → AllZip R xs ys → (k : ℕ) (d : A) (e : B) → k < length ys → R (get_or xs k d) (get_or ys k e)
 all_zip_at R [] [] h k d e lt = absurd (omega (arith, lt))
 all_zip_at R [] (y ∷ ys) h k d e lt = absurd h
 all_zip_at R (x ∷ xs) [] h k d e lt = absurd h
@@ -101,6 +101,50 @@ module _ (rows numbers : List ℕ) (each : length numbers ≡ length rows) (n nu
             let kept : rows_of (take (n + 1) rows) (take (n + 1) numbers) k ≡ rows_of (take n rows) (take n numbers) k = rw (rows_more k, other, append-nil) in
             rw (get_or-set_other lists number k new d away) (record { so_far = there.so_far ∙ sym kept; room = there.room })
       ]
+
+  -- rows that stand behind others
+
+  pub more_room : (before now : List (SmallVec ℕ)) (e : SmallVec ℕ) → number < length before → HaveRoom numbers before → HaveMore (take n rows) (take n numbers) before now
+      → length (get_or now number e).items + 1 ≤ (get_or now number e).capacity
+  more_room before now e inside room have =
+      let at = have.each number e inside in
+      let here : count_of (take (n + 1) numbers) number ≡ count_of (take n numbers) number + 1 =
+      rw (take_more numbers n 0 lt, is) (sum_by_push (one_if number) (take n numbers) number ∙ rw (eq-eqb number number refl)) in
+      let so_far = ap length at.longer ∙ length-append (get_or before number e).items (rows_of (take n rows) (take n numbers) number) in
+      omega (arith, here, so_far, length-rows_of (take n rows) (take n numbers) number as_long, count_take numbers (n + 1) number, room number e inside, at.room)
+
+  pub more_more : (before now : List (SmallVec ℕ)) (e new : SmallVec ℕ) → number < length before → new.items ≡ (get_or now number e).items ++ row ∷ [] → new.capacity ≡ (get_or now number e).capacity →
+      HaveMore (take n rows) (take n numbers) before now → HaveMore (take (n + 1) rows) (take (n + 1) numbers) before (set now number new)
+  more_more before now e new inside longer same have =
+      let within : number < length now = omega (arith, inside, have.as_many) in
+      record {
+        as_many = length-set now number new ∙ have.as_many;
+        each = λ k d in_before. elim (cases_eq k number) [
+          | inl here_is ↦
+              let at = have.each number d inside in
+              let last : rows_of (take (n + 1) rows) (take (n + 1) numbers) number ≡ rows_of (take n rows) (take n numbers) number ++ row ∷ [] = rw (rows_more number, eq-eqb number number refl) in
+              let read : get_or now number e ≡ get_or now number d = get_or_default now number e d within in
+              rw (here_is, get_or-set_same now number new d within) (record {
+                longer = longer ∙ ap (λ (list : SmallVec ℕ). list.items ++ row ∷ []) read ∙ ap (λ list. list ++ row ∷ []) at.longer
+                    ∙ append_assoc (get_or before number d).items (rows_of (take n rows) (take n numbers) number) (row ∷ []) ∙ ap (λ list. (get_or before number d).items ++ list) (sym last);
+                room = same ∙ ap (λ (list : SmallVec ℕ). list.capacity) read ∙ at.room;
+              })
+          | inr away ↦
+              let there = have.each k d in_before in
+              let other : eqb number k ≡ false = ne_eqb number k (λ h. away (sym h)) in
+              let kept : rows_of (take (n + 1) rows) (take (n + 1) numbers) k ≡ rows_of (take n rows) (take n numbers) k = rw (rows_more k, other, append-nil) in
+              rw (get_or-set_other now number k new d away) (record { longer = there.longer ∙ ap (λ list. (get_or before k d).items ++ list) (sym kept); room = there.room })
+        ];
+      }
+
+pub more_none : (rows numbers : List ℕ) (lists : List (SmallVec ℕ)) → HaveMore (take 0 rows) (take 0 numbers) lists lists
+unfolding rows_of
+more_none rows numbers lists = record { as_many = refl; each = λ k d lt. record { longer = sym (append-nil (get_or lists k d).items); room = refl } }
+
+pub more_all : (rows numbers : List ℕ) (n : ℕ) (before now : List (SmallVec ℕ)) → length numbers ≡ length rows → length numbers ≤ n → HaveMore (take n rows) (take n numbers) before now → HaveMore rows numbers before now
+more_all rows numbers n before now each all have =
+    let all_rows : length rows ≤ n = omega (arith, each, all) in
+    rw (take_all n numbers all, take_all n rows all_rows) at have
 
 pub filled_all : (rows numbers : List ℕ) (n : ℕ) (lists : List (SmallVec ℕ)) → length numbers ≡ length rows → length numbers ≤ n → AreFilledTo rows numbers n lists → lists_of lists ≡ lists_by rows numbers (length lists)
 filled_all rows numbers n lists each all f =

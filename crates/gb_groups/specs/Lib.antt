@@ -1,3 +1,4 @@
+pub mod Buckets
 pub mod Groups
 pub mod GroupsIndicator
 pub mod GroupsType

@@ -9,4 +9,5 @@ pub mod groups_type;
 mod items;
 pub mod iter;
 pub mod order;
+mod row_buckets;
 pub mod row_lists;

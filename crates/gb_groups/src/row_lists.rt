@@ -1,13 +1,14 @@
 //! The rows of each group, from the number of each row's group.
 
-ghost use Rattle.std.specs.Prelude.{◌≡◌, ℕ, ◌<◌, ◌^◌, length, IfOk, List, slice_index};
+ghost use Rattle.std.specs.Prelude.{◌≡◌, ℕ, ◌<◌, ◌^◌, length, IfOk, List, OnOk, slice_index};
 ghost use Rattle.std.specs.List.{All, AllZip};
 ghost use Rattle.gb_defs.specs.Classes.{rows_below};
 ghost use Rattle.gb_defs.specs.Groups.{HasRowNumbers};
 ghost use Rattle.gb_groups.specs.Groups.{lists_of};
-ghost use Rattle.gb_groups.specs.Numbers.{IsRoomFor, counts_by, lists_by};
+ghost use Rattle.gb_groups.specs.Numbers.{HaveMore, HaveRoom, IsRoomFor, counts_by, lists_by};
 
 use crate::groups_idx::IdxVec;
+use crate::row_buckets::{NEAR_GROUPS, RowBucket, bucket_rows};
 use gb_base::nullable_idx::IdxSize;
 use smallvec::SmallVec;
 use std::alloc::{AllocError, Global};
@@ -90,7 +91,13 @@ pub fn row_lists<M: Members>(
 {
     let counts = row_counts(alloc, numbers, groups)?;
     let mut lists = empty_lists(alloc, counts.as_slice())?;
-    fill_lists(lists.as_mut_slice(), rows, numbers);
+    fill_lists(
+        alloc,
+        lists.as_mut_slice(),
+        rows,
+        numbers,
+        counts.as_slice(),
+    )?;
     Ok(lists)
 }
 
@@ -128,14 +135,43 @@ pub fn empty_lists(alloc: Global, counts: &[IdxSize]) -> Result<Vec<IdxVec>, All
     Ok(lists)
 }
 
-// Puts each row into the list of its group.
-fn fill_lists<M: Members>(lists: &mut [IdxVec], rows: &M, numbers: &[u32])
+// Puts each row behind those in the list of its group.
+fn add_rows<M: Members>(lists: &mut [IdxVec], rows: &M, numbers: &[u32])
     requires each { length numbers.now ≡ length (M.listed rows.now) }
     requires known { All (λ number. number < length lists.old) numbers.now }
-    requires room { AllZip IsRoomFor (counts_by numbers.now (length lists.old)) lists.old }
-    ensures { lists_of lists.new ≡ lists_by (M.listed rows.now) numbers.now (length lists.old) }
+    requires room { HaveRoom numbers.now lists.old }
+    ensures { HaveMore (M.listed rows.now) numbers.now lists.old lists.new }
 {
     for (place, number) in numbers.iter().enumerate() {
         lists[*number as usize].push_reserved(rows.row_at(place));
     }
+}
+
+// Puts each row into the list of its group, where there are many lists by buckets of near ones.
+fn fill_lists<M: Members>(
+    alloc: Global,
+    lists: &mut [IdxVec],
+    rows: &M,
+    numbers: &[u32],
+    counts: &[IdxSize],
+) -> Result<(), AllocError>
+    requires each { length numbers.now ≡ length (M.listed rows.now) }
+    requires known { All (λ number. number < length lists.old) numbers.now }
+    requires room { AllZip IsRoomFor (counts_by numbers.now (length lists.old)) lists.old }
+    requires counted { length counts.now ≡ length lists.old }
+    ensures { OnOk result
+        (lists_of lists.new ≡ lists_by (M.listed rows.now) numbers.now (length lists.old)) }
+{
+    if lists.len() <= NEAR_GROUPS {
+        add_rows(lists, rows, numbers);
+        return Ok(());
+    }
+    let buckets = bucket_rows(alloc, rows, numbers, counts)?;
+    for bucket in &buckets {
+        let listed = ListedRows {
+            rows: bucket.rows.as_slice(),
+        };
+        add_rows(lists, &listed, bucket.numbers.as_slice());
+    }
+    Ok(())
 }

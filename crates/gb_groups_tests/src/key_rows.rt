@@ -8,9 +8,10 @@ use gb_cols::primitive::Int64Chunked;
 use gb_hash::byte_rows::ByteRows;
 use gb_hash::dirty_hash::SeedMixer;
 use gb_hash::key_rows::{KeyRows, Steps};
-use gb_hash::list_rows::{ListRows, TextChunks, TextRows};
+use gb_hash::list_rows::{ByteChunks, ChunkRows, ListRows};
 use gb_hash::num_rows::NumRows;
 use gb_hash::slice_rows::SliceRows;
+use gb_values::utf8::Text;
 use std::alloc::Global;
 use std::marker::Brand;
 use std::sync::ledger::{Blank, Ledger};
@@ -55,7 +56,7 @@ fn texts_read(alloc: Global) -> PolarsResult<bool> {
 }
 
 // A chunk more, of the texts of a column.
-fn push_texts<'a>(texts: &mut TextChunks<'a>, column: &'a StringChunked) -> PolarsResult<()> {
+fn push_texts<'a>(texts: &mut ByteChunks<'a, Text>, column: &'a StringChunked) -> PolarsResult<()> {
     if let Some(chunk) = column.all_valid() {
         texts.push(chunk)?;
     }
@@ -69,12 +70,12 @@ fn chunks_read(
     empty: &StringChunked,
     last: &StringChunked,
 ) -> PolarsResult<bool> {
-    let mut chunks = TextChunks::new(alloc);
+    let mut chunks = ByteChunks::new(alloc);
     push_texts(&mut chunks, first)?;
     push_texts(&mut chunks, empty)?;
     push_texts(&mut chunks, last)?;
     let keys = ["eight by".as_bytes(), "a".as_bytes(), "eight by".as_bytes()];
-    let rows = TextRows::new(&chunks, mixer());
+    let rows = ChunkRows::new(&chunks, mixer());
     Ok(reads_once(&rows, &keys, &[EIGHT_BY, LETTER_A, EIGHT_BY]))
 }
 

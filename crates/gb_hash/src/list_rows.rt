@@ -1,4 +1,4 @@
-//! The rows of a list of keys, and of texts in chunks.
+//! The rows of a list of keys, and of texts or other bytes in chunks.
 
 ghost use Rattle.std.specs.Prelude.{◌≡◌, ◌++◌, ◌<◌, ◌≤◌, [], length, map, pos, nat_eq, get_or, OnOk};
 ghost use Rattle.std.specs.Bool.{Decides};
@@ -16,8 +16,8 @@ ghost use Rattle.gb_hash.specs.Keys.{bytes_decide, numbers_decide, plain_bytes_d
 use crate::dirty_hash::{Mixer, hash_of_halves, with_word};
 use crate::key_rows::{KeyRows, Steps};
 use crate::row_mixer::RowMixer;
+use gb_values::bytes::{ByteKind, ByteValues};
 use gb_values::nullable::Values;
-use gb_values::utf8::TextValues;
 use std::alloc::{AllocError, Global};
 use std::hash::Hash;
 use std::marker::Model;
@@ -129,17 +129,17 @@ impl<'a, K: RowKey + Send + Sync, M: Mixer + Sync> KeyRows for ListRows<'a, K, M
     }
 }
 
-/// Texts in chunks, none of them null, each by its place among all.
+/// Texts or other bytes in chunks, none of them null, each by its place among all.
 #[derive(Drop)]
-pub struct TextChunks<'a> {
-    chunks: Vec<&'a TextValues>,
-    // Behind how many texts each chunk ends.
+pub struct ByteChunks<'a, K: ByteKind> {
+    chunks: Vec<&'a ByteValues<K>>,
+    // Behind how many values each chunk ends.
     ends: Vec<usize>,
-    // Of each so many texts, the chunk of the first.
+    // Of each so many values, the chunk of the first.
     pages: Vec<usize>,
 }
 
-impl<'a> Model for TextChunks<'a> {
+impl<'a, K: ByteKind> Model for ByteChunks<'a, K> {
     ghost use Rattle.std.specs.Prelude.{List, ℕ};
     ghost use Rattle.gb_hash.specs.Chunks.{AreEnds, texts_in};
 
@@ -150,20 +150,20 @@ impl<'a> Model for TextChunks<'a> {
     ghost invariant = { λ texts. AreEnds texts.chunks.items texts.ends.items };
 }
 
-impl<'a> TextChunks<'a> {
-    /// No texts.
-    pub fn new(alloc: Global) -> TextChunks<'a>
+impl<'a, K: ByteKind> ByteChunks<'a, K> {
+    /// No values.
+    pub fn new(alloc: Global) -> ByteChunks<'a, K>
         ensures { result ≡ [] }
     {
-        TextChunks {
+        ByteChunks {
             chunks: Vec::new(alloc),
             ends: Vec::new(alloc),
             pages: Vec::new(alloc),
         }
     }
 
-    /// A chunk more behind the others. More texts than a `usize` counts are more than memory holds.
-    pub fn push(&mut self, chunk: &'a TextValues) -> Result<(), AllocError>
+    /// A chunk more behind the others. More values than a `usize` counts are more than memory holds.
+    pub fn push(&mut self, chunk: &'a ByteValues<K>) -> Result<(), AllocError>
         ensures { OnOk result (self.new ≡ self.old ++ chunk.now) }
     {
         let end = self.len().checked_add(chunk.len()).ok_or(AllocError)?;
@@ -183,19 +183,19 @@ impl<'a> TextChunks<'a> {
         }
     }
 
-    /// The text at a place. Its chunk is mostly that of a text not far before it, and else is found by a
+    /// The value at a place. Its chunk is mostly that of a value not far before it, and else is found by a
     /// binary search.
     #[inline]
-    pub fn get(&self, i: usize) -> &'a str
+    pub fn get(&self, i: usize) -> &'a [u8]
         requires { i < length self.now }
         ensures { result.now ≡ get_or self.now i [] }
     {
         let at = chunk_at(&self.ends, &self.pages, i);
-        self.chunks[at].get(i - chunk_start(&self.ends, at))
+        self.chunks[at].bytes_at(i - chunk_start(&self.ends, at))
     }
 }
 
-// How many texts a page has.
+// How many values a page has.
 const PAGE: usize = 4096;
 
 // Notes a chunk for each page that begins before a place and is not noted yet.
@@ -206,7 +206,7 @@ fn put_pages(pages: &mut Vec<usize>, chunk: usize, end: usize) -> Result<(), All
     Ok(())
 }
 
-// The chunk that a text stands in. The one that its page notes is looked at first.
+// The chunk that a value stands in. The one that its page notes is looked at first.
 #[inline]
 fn chunk_at(ends: &[usize], pages: &[usize], i: usize) -> usize
     requires rising { IsNonDecreasingBy (λ end. end) ends.now }
@@ -223,7 +223,7 @@ fn chunk_at(ends: &[usize], pages: &[usize], i: usize) -> usize
     ends.partition_point(|end| *end <= i)
 }
 
-// Behind how many texts the chunk at a place starts.
+// Behind how many values the chunk at a place starts.
 #[inline]
 fn chunk_start(ends: &[usize], at: usize) -> usize
     requires { at ≤ length ends.now }
@@ -232,44 +232,44 @@ fn chunk_start(ends: &[usize], at: usize) -> usize
     if at == 0 { 0 } else { ends[at - 1] }
 }
 
-/// The rows of texts in chunks, none of them null; their bytes are the keys.
+/// The rows of texts or other bytes in chunks, none of them null, which are the keys.
 #[derive(Drop)]
-pub struct TextRows<'r, 'a, M: Mixer> {
-    pub texts: &'r TextChunks<'a>,
+pub struct ChunkRows<'r, 'a, K: ByteKind, M: Mixer> {
+    pub chunks: &'r ByteChunks<'a, K>,
     pub mixer: RowMixer<M>,
 }
 
-impl<'r, 'a, M: Mixer> TextRows<'r, 'a, M> {
-    pub fn new(texts: &'r TextChunks<'a>, mixer: M) -> Self
-        ensures texts { result.texts.now ≡ texts.now }
+impl<'r, 'a, K: ByteKind, M: Mixer> ChunkRows<'r, 'a, K, M> {
+    pub fn new(chunks: &'r ByteChunks<'a, K>, mixer: M) -> Self
+        ensures chunks { result.chunks.now ≡ chunks.now }
         ensures mixer { result.mixer ≡ mixer }
     {
         let mixer = RowMixer::new(mixer);
-        TextRows { texts, mixer }
+        ChunkRows { chunks, mixer }
     }
 }
 
-impl<'r, 'a, M: Mixer + Sync> KeyRows for TextRows<'r, 'a, M> {
+impl<'r, 'a, K: ByteKind + Sync, M: Mixer + Sync> KeyRows for ChunkRows<'r, 'a, K, M> {
     type Key = &'a [u8];
 
-    ghost rows = { λ r. rows_of_slots w64 (M.seed_of r.mixer) (M.mix_of r.mixer) (map (λ t. Bytes t) r.texts.now) };
+    ghost rows = { λ r. rows_of_slots w64 (M.seed_of r.mixer) (M.mix_of r.mixer) (map (λ t. Bytes t) r.chunks.now) };
 
     ghost key_slot = { λ key. Bytes key.now };
 
     ghost keys_decide = { plain_bytes_decide };
 
-    ghost hashes_alike = { λ r. slots_alike w64 (M.seed_of r.mixer) (M.mix_of r.mixer) (map (λ t. Bytes t) r.texts.now) };
+    ghost hashes_alike = { λ r. slots_alike w64 (M.seed_of r.mixer) (M.mix_of r.mixer) (map (λ t. Bytes t) r.chunks.now) };
 
     fn len(&self) -> usize {
-        self.texts.len()
+        self.chunks.len()
     }
 
     fn key_at<L: Ledger>(&self, i: usize, steps: &mut Steps<L>) -> &'a [u8] {
         steps.tick();
-        self.texts.get(i).as_bytes()
+        self.chunks.get(i)
     }
 
     fn hash_at(&self, i: usize) -> u64 {
-        self.mixer.hash_text(self.texts.get(i).as_bytes())
+        self.mixer.hash_text(self.chunks.get(i))
     }
 }

@@ -208,11 +208,6 @@ module _ (keys : Frame) (many : 1 < length keys) (aligned : AreOfOneLength keys)
       ∙ ap (λ ks. path.path_groups (path_by_keys ks (frame_height keys) multithreaded (workers_of pool) (threshold_of pool)) rows 0 (partitions_of pool) sorted) (sym none)
       ∙ sym (several keys multithreaded sorted pool many)
 
--- what holds of a value, and what holds beside it
-pub both_ok : {A E : Type 0} (r : Result A E) (P : A → Type 0) (Q : Type 0) → IfOk r P → OnOk r Q → IfOk r (λ x. P x × Q)
-both_ok (Ok x) P Q p q = (p, q)
-both_ok (Err e) P Q p q = tt
-
 -- two facts of one value
 pub also_ok : {A E : Type 0} (r : Result A E) (P Q : A → Type 0) → IfOk r P → IfOk r Q → IfOk r (λ x. P x × Q x)
 also_ok (Ok x) P Q p q = (p, q)

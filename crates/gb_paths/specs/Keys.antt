@@ -17,6 +17,10 @@ use Rattle.gb_paths.specs.declared.keys.KeyKind.TheVariants as kind
 use Rattle.gb_paths.specs.declared.keys.Keys.{Keys}
 use Rattle.gb_paths.specs.declared.keys.Keys.TheVariants.{Plain, Words, PlainCodes, Codes, Wide, Texts, Bytes, RowBytes}
 
+-- rows of bytes, with their hashes under a seed
+abbrev pub byte_rows : ℕ → List slot.Slot → Rows
+byte_rows seed slots = rows_of_slots w64 seed seed_mix slots
+
 -- the rows of keys, with their hashes under a seed
 abbrev pub rows_of_keys : ℕ → Keys → Rows
 rows_of_keys seed (Plain words) = rows_of_slots w64 seed seed_mix (key_slots (λ n. pos n) words.items)
@@ -26,7 +30,7 @@ rows_of_keys seed (Codes codes) = rows_of_slots w64 seed seed_mix (map key_slot 
 rows_of_keys seed (Wide words) = rows_of_slots w128 seed seed_mix (map key_slot words.items)
 rows_of_keys seed (Texts texts) = rows_of_slots w64 seed seed_mix (map (λ t. slot.Bytes t) texts)
 rows_of_keys seed (Bytes bytes) = rows_of_slots w64 seed seed_mix (map bytes_slot bytes.items)
-rows_of_keys seed (RowBytes bytes) = rows_of_slots w64 seed seed_mix bytes.slots
+rows_of_keys seed (RowBytes bytes) = byte_rows seed bytes.slots
 
 abbrev pub key_kind : Keys → path.KeyKind
 key_kind (Plain words) = Numbers

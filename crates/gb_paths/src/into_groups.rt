@@ -13,12 +13,12 @@ ghost use Rattle.gb_base.specs.declared.pool.Pool.{Pool};
 ghost use Rattle.gb_groups.specs.GroupsType.{groups_of};
 ghost use Rattle.gb_series.specs.Series.{value_of};
 ghost use Rattle.gb_runs.specs.Runs.{AreTogether, StandTogether};
-ghost use Rattle.gb_paths.specs.Keys.{null_rows, rows_of_keys};
+ghost use Rattle.gb_paths.specs.Keys.{byte_rows, null_rows, rows_of_keys};
 ghost use Rattle.gb_paths.specs.Tuples.{IsPerfect, key_path_value, ordered, tuples_of, tuples_on};
 ghost use Rattle.gb_paths.specs.declared.path.KeyPath.TheVariants.{Runs};
 
 use crate::group_by::group_uncounted;
-use crate::keys::{KeyColumn, Keys};
+use crate::keys::{KeyColumn, Keys, byte_chunks};
 use crate::path::{KeyOrder, KeyPath, Path, order_of, path_of};
 use crate::threaded::group_by_threaded_iter;
 use gb_base::device::Gate;
@@ -26,6 +26,7 @@ use gb_base::error::PolarsResult;
 use gb_base::memory::FreeGate;
 use gb_base::nullable_idx::IdxSize;
 use gb_base::pool::Pool;
+use gb_cols::binary::BinaryOffsetChunked;
 use gb_cols::series_trait::SeriesTrait;
 use gb_cols::undo_append::UndoAppend;
 use gb_groups::groups_idx::GroupsIdx;
@@ -33,7 +34,7 @@ use gb_groups::groups_slice::GroupsSlice;
 use gb_groups::groups_type::GroupsType;
 use gb_hash::dirty_hash::SeedMixer;
 use gb_hash::key_rows::KeyRows;
-use gb_hash::list_rows::{ListRows, TextRows};
+use gb_hash::list_rows::{ChunkRows, ListRows};
 use gb_hash::slice_rows::SliceRows;
 use gb_runs::codes::group_codes;
 use gb_runs::runs::group_runs;
@@ -255,16 +256,42 @@ pub(crate) fn group_keys<T: Threads + Sync, G: Gate + Sync>(
             group_rows(rt, alloc, &rows, path, sorted, pool, gate)
         }
         Keys::Texts(texts) => {
-            let rows = TextRows::new(texts, mixer);
+            let rows = ChunkRows::new(texts, mixer);
             group_rows(rt, alloc, &rows, path, sorted, pool, gate)
         }
         Keys::Bytes(bytes) => {
             let rows = ListRows::new(bytes.as_slice(), mixer);
             group_rows(rt, alloc, &rows, path, sorted, pool, gate)
         }
-        Keys::RowBytes(bytes) => {
-            let bytes = bytes.byte_slices()?;
-            let rows = ListRows::new(bytes.as_slice(), mixer);
+        Keys::RowBytes(bytes) => group_bytes(rt, alloc, bytes, path, sorted, pool, gate),
+    }
+}
+
+// The groups of rows by their bytes, which are read as they lie where no row is null.
+fn group_bytes<T: Threads + Sync, G: Gate + Sync>(
+    rt: &T,
+    alloc: Global,
+    bytes: &BinaryOffsetChunked,
+    path: KeyPath,
+    sorted: bool,
+    pool: &Pool,
+    gate: &G,
+) -> PolarsResult<GroupsType>
+    requires few { HasRowNumbers (length bytes.now.slots) }
+    requires together { path ≡ Runs → StandTogether (byte_rows (seed_of pool.now) bytes.now.slots) }
+    ensures ok { let rows = byte_rows (seed_of pool.now) bytes.now.slots in IfOk result (λ g.
+        groups_of g ≡ path_groups (key_path_value path) rows 0 (partitions_of pool.now) sorted) }
+    ensures err { IfErr result IsNoMemory }
+{
+    let mixer = SeedMixer::new(pool.seed());
+    match byte_chunks(bytes)? {
+        Some(chunks) => {
+            let rows = ChunkRows::new(&chunks, mixer);
+            group_rows(rt, alloc, &rows, path, sorted, pool, gate)
+        }
+        None => {
+            let slices = bytes.byte_slices()?;
+            let rows = ListRows::new(slices.as_slice(), mixer);
             group_rows(rt, alloc, &rows, path, sorted, pool, gate)
         }
     }

@@ -10,14 +10,14 @@ ghost use Rattle.gb_paths.specs.Keys.{AreCodesOf, HasNoCodes, HasNoValues, Stand
 use crate::plain_words::plain_words;
 use gb_base::error::PolarsResult;
 use gb_cols::binary::BinaryOffsetChunked;
-use gb_cols::chunked::{ChunkedArray, StringChunked};
+use gb_cols::chunked::ChunkedArray;
 use gb_cols::null::NullChunked;
 use gb_cols::primitive::UInt32Chunked;
 use gb_cols::series_trait::SeriesTrait;
 use gb_cols::undo_append::UndoAppend;
 use gb_flat_series::of_column;
 use gb_flat_series::series::FlatSeries;
-use gb_hash::list_rows::TextChunks;
+use gb_hash::list_rows::ByteChunks;
 use gb_logical::categorical::CategoricalChunked;
 use gb_logical::logical::{Logical, LogicalKind};
 use gb_numbers::numeric::{Native, PolarsNumericType};
@@ -25,10 +25,10 @@ use gb_rows::unordered::encode_rows_unordered;
 use gb_series::series::Series;
 use gb_values::binary::{Binary, BinaryOffset};
 use gb_values::boolean::FlagValues;
-use gb_values::bytes::ByteValues;
+use gb_values::bytes::{ByteKind, ByteValues};
 use gb_values::nullable::Values;
 use gb_values::primitive::NumberValues;
-use gb_values::utf8::TextValues;
+use gb_values::utf8::{Text, TextValues};
 use std::slice;
 
 /// What the values of a column are to a grouping.
@@ -59,7 +59,7 @@ pub enum Keys<'a> {
     /// Numbers of 128 bits.
     Wide(Vec<Option<u128>>),
     /// Texts as they lie, none of them null.
-    Texts(TextChunks<'a>),
+    Texts(ByteChunks<'a, Text>),
     /// Texts and other bytes.
     Bytes(Vec<Option<&'a [u8]>>),
     /// The bytes of rows, of slots that hold others or of several columns.
@@ -112,7 +112,7 @@ impl KeyValues for FlagValues {
 impl KeyValues for TextValues {
     fn keys_of(column: &ChunkedArray<TextValues>) -> PolarsResult<Keys<'_>> {
         let _ = column.allocator();
-        match text_chunks(column)? {
+        match byte_chunks(column)? {
             Some(texts) => Ok(Keys::Texts(texts)),
             None => Ok(Keys::Bytes(column.byte_slices()?)),
         }
@@ -123,25 +123,27 @@ impl KeyValues for TextValues {
     }
 }
 
-// The texts of a column as they lie, where none is null.
-fn text_chunks(column: &StringChunked) -> PolarsResult<Option<TextChunks<'_>>>
-    ensures ok { IfOk result (λ found. IfSome found (λ texts.
-        map (λ text. slot.Bytes text) texts ≡ column.now.slots)) }
+/// The values of a column of texts or other bytes as they lie, where none is null.
+pub(crate) fn byte_chunks<K: ByteKind>(
+    column: &ChunkedArray<ByteValues<K>>,
+) -> PolarsResult<Option<ByteChunks<'_, K>>>
+    ensures ok { IfOk result (λ found. IfSome found (λ chunks.
+        map (λ bytes. slot.Bytes bytes) chunks ≡ column.now.slots)) }
     ensures err { IfErr result IsNoMemory }
 {
-    let mut texts = TextChunks::new(column.allocator());
+    let mut chunks = ByteChunks::new(column.allocator());
     let (earlier, last) = column.chunks();
     for chunk in earlier {
         let Some(values) = chunk.all_valid() else {
             return Ok(None);
         };
-        texts.push(values)?;
+        chunks.push(values)?;
     }
     let Some(values) = last.all_valid() else {
         return Ok(None);
     };
-    texts.push(values)?;
-    Ok(Some(texts))
+    chunks.push(values)?;
+    Ok(Some(chunks))
 }
 
 impl KeyValues for ByteValues<Binary> {

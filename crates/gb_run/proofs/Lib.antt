@@ -4,7 +4,6 @@ pub mod CutLemmas
 pub mod FoldingLemmas
 pub mod GroupPartLemmas
 pub mod GroupingLemmas
-pub mod NearLemmas
 pub mod PartLemmas
 pub mod ReportLemmas
 pub mod RunLemmas

@@ -1,7 +1,6 @@
 pub mod Folds
 pub mod GroupPart
 pub mod Grouping
-pub mod Near
 pub mod Request
 pub mod Run
 pub mod Words

@@ -20,7 +20,6 @@ ghost use Rattle.gb_run.specs.Request.{agg_of, method_of};
 pub mod by_workers;
 pub mod group_part;
 mod group_sums;
-pub mod near_chunk;
 pub mod number_fold;
 
 use crate::words::{Agg, GroupByMethod};

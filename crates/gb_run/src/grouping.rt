@@ -193,24 +193,9 @@ fn keys_at(alloc: Global, keys: &[&Series], rows: &[IdxSize]) -> PolarsResult<Ve
 {
     let mut columns = Vec::with_capacity(alloc, keys.len())?;
     for key in keys {
-        columns.push(taken_key(key, rows)?)?;
+        columns.push(key.take(rows)?)?;
     }
     Ok(columns)
-}
-
-// A key at some rows. Where seeking a chunk for each row would take longer than a copy, its chunks are put into one.
-fn taken_key(key: &Series, rows: &[IdxSize]) -> PolarsResult<Series>
-    requires { HasRows rows.now (value_of key.now) }
-    ensures ok { IfOk result (λ column.
-        content (value_of column) ≡ content (taken rows.now (value_of key.now))) }
-    ensures err { IfErr result IsNoMemory }
-{
-    let steps = rows.len().saturating_mul(key.n_chunks());
-    if steps <= key.len().saturating_mul(8) {
-        return key.take(rows);
-    }
-    let whole = key.rechunk()?;
-    whole.take(rows)
 }
 
 // The aggregates over the rows of each group.

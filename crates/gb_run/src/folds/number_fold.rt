@@ -11,9 +11,9 @@ ghost use Rattle.gb_values.specs.Array.{native_slot};
 ghost use Rattle.gb_series.specs.Series.{value_of};
 ghost use Rattle.gb_run.specs.Folds.{fold_in, rows_fold};
 
-use crate::folds::near_chunk::NearChunk;
 use gb_cols::boolean::BooleanChunked;
 use gb_cols::chunked::ChunkedArray;
+use gb_cols::near_chunk::NearChunk;
 use gb_cols::series_trait::SeriesTrait;
 use gb_groups::groups_idx::IdxSize;
 use gb_numbers::numeric::{Native, PolarsNumericType, UInt32Type};

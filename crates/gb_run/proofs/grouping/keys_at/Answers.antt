@@ -4,8 +4,8 @@ use Rattle.gb_series.specs.Series.{value_of}
 use Rattle.gb_run.specs.Grouping.{HasRows}
 use Rattle.gb_run.proofs.grouping.keys_at.Goals as goal
 
-pub taken_key-requires : goal.taken_key-requires
-taken_key-requires c =
+pub take-requires : goal.take-requires
+take-requires c =
     let keys = c.args.keys.now in
     let i = c.loop-key.key-index in
     let key = c.key-item.result in

@@ -3,7 +3,7 @@ use Rattle.std.proofs.Common.{◌≡◌, ℕ, ◌+◌, ◌<◌, ◌≤◌, List,
 use Rattle.std.proofs.lemmas.List.{get_or-append-add, get_or_append_left}
 use Rattle.gb_defs.specs.Slot.{Slot, Nil, slot_at}
 use Rattle.gb_cols.proofs.ChunkedLemmas.{before_chunk, from_chunk, front_all, front_slots, slots_around}
-use Rattle.gb_run.specs.Near.{IsNear, StandsAt, slots_in_chunks}
+use Rattle.gb_cols.specs.Near.{IsNear, StandsAt, slots_in_chunks}
 
 pub last_stands : (earlier : List (List Slot)) (last : List Slot) (i start : ℕ) → length earlier ≤ i → start ≡ before_chunk earlier i → StandsAt (slots_in_chunks earlier last) start last
 last_stands earlier last i start le e = λ k lt.

@@ -2,10 +2,10 @@
 
 ghost use Rattle.std.specs.Prelude.{◌+◌, ◌<◌, ◌≤◌, List, length};
 ghost use Rattle.gb_defs.specs.Slot.{Slot};
-ghost use Rattle.gb_run.specs.Near.{IsNear, IsStart, slots_in_chunks};
+ghost use Rattle.gb_cols.specs.Near.{IsNear, IsStart, slots_in_chunks};
 
-use gb_cols::chunked::ChunkedArray;
-use gb_cols::series_trait::SeriesTrait;
+use crate::chunked::ChunkedArray;
+use crate::series_trait::SeriesTrait;
 use gb_values::nullable::{NullableArray, Values};
 use std::marker::Model;
 
@@ -24,7 +24,7 @@ impl<'a, V: Values> Model for NearChunk<'a, V> {
     ghost use Rattle.std.specs.Prelude.{List};
     ghost use Rattle.std.specs.Coded.{coded_list};
     ghost use Rattle.gb_defs.specs.Slot.{Slot, slot_code};
-    ghost use Rattle.gb_run.specs.Near.{IsNear, slots_in_chunks};
+    ghost use Rattle.gb_cols.specs.Near.{IsNear, slots_in_chunks};
 
     ghost Value = { List Slot };
 

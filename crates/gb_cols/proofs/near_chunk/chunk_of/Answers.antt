@@ -1,7 +1,7 @@
 use Rattle.std.proofs.Common.{◌≤◌, length, arith}
 use Rattle.gb_cols.proofs.ChunkedLemmas.{before_all}
-use Rattle.gb_run.proofs.NearLemmas.{chunk_near, last_near}
-use Rattle.gb_run.proofs.folds.near_chunk.chunk_of.Goals as goal
+use Rattle.gb_cols.proofs.NearLemmas.{chunk_near, last_near}
+use Rattle.gb_cols.proofs.near_chunk.chunk_of.Goals as goal
 
 pub loop-place-init : goal.loop-place-init
 loop-place-init g c = record { start_is = c.requires.from.is; from = c.requires.before }
