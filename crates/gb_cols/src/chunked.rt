@@ -24,7 +24,6 @@ use std::marker::Model;
 use std::mem;
 
 /// A named column of any values: its chunks in order, the last one apart, so that there is one always.
-#[derive(Drop)]
 pub struct ChunkedArray<V: Values> {
     name: PlSmallStr,
     pub(crate) earlier: Vec<NullableArray<V>>,
@@ -52,6 +51,19 @@ impl<V: Values> Model for ChunkedArray<V> {
 
     ghost invariant = { λ c. IsSmallColumn (column_of V.dtype (name_of c.name)
         (flag_of c.sorted) (c.earlier.items ++ c.last ∷ [])) };
+}
+
+// With an impl of its own a column is let go of by a call. With a derive each function that lets go of one
+// does so part by part, at each exit.
+impl<V: Values> Drop for ChunkedArray<V> {
+    fn drop(self) {
+        let ChunkedArray {
+            name: _,
+            earlier: _,
+            last: _,
+            sorted: _,
+        } = self;
+    }
 }
 
 impl<V: Values> SeriesTrait for ChunkedArray<V> {

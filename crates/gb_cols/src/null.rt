@@ -18,7 +18,6 @@ use std::marker::Model;
 use std::mem;
 
 /// A named column of nulls: how many each chunk has, the last one apart, so that there is one always.
-#[derive(Drop)]
 pub struct NullChunked {
     name: PlSmallStr,
     earlier: Vec<usize>,
@@ -85,6 +84,17 @@ fn total(counts: &[usize]) -> usize
     ensures { result ≡ sum counts.now }
 {
     counts.iter().sum()
+}
+
+// By a call, as every column is let go of.
+impl Drop for NullChunked {
+    fn drop(self) {
+        let NullChunked {
+            name: _,
+            earlier: _,
+            last: _,
+        } = self;
+    }
 }
 
 impl SeriesTrait for NullChunked {

@@ -32,7 +32,6 @@ use std::marker::Model;
 use std::sync::Arc;
 
 /// A column of categories. Its slots are codes, and its type has the text of each.
-#[derive(Drop)]
 pub struct CategoricalChunked {
     physical: UInt32Chunked,
     map: Arc<RevMapping>,
@@ -57,6 +56,19 @@ impl Model for CategoricalChunked {
         c.all_used c.physical };
 
     ghost invariant = { λ c. AreCodesOf (arc_value c.map) c.physical c.all_used };
+}
+
+// By a call, as every column is let go of.
+impl Drop for CategoricalChunked {
+    fn drop(self) {
+        let CategoricalChunked {
+            physical: _,
+            map: _,
+            ordering: _,
+            is_enum: _,
+            all_used: _,
+        } = self;
+    }
 }
 
 impl CategoricalChunked {

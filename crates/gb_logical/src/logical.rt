@@ -76,7 +76,6 @@ pub trait LogicalKind: Copy {
 }
 
 /// A column of numbers that mean something else: a date, a time, a span, a decimal.
-#[derive(Drop)]
 pub struct Logical<K: LogicalKind> {
     physical: ChunkedArray<NumberValues<K::Physical>>,
     kind: K,
@@ -95,6 +94,16 @@ impl<K: LogicalKind> Model for Logical<K> {
     ghost view = { λ c. typed_as (Flat (K.flat c.kind)) c.physical };
 
     ghost invariant = { λ c. c.physical.dtype ≡ Flat K.Physical.Native.flat };
+}
+
+// By a call, as every column is let go of.
+impl<K: LogicalKind> Drop for Logical<K> {
+    fn drop(self) {
+        let Logical {
+            physical: _,
+            kind: _,
+        } = self;
+    }
 }
 
 impl<K: LogicalKind> Logical<K> {
