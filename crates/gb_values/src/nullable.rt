@@ -328,7 +328,8 @@ impl<V: Values> NullableArray<V> {
     }
 
     /// How the slot at a place compares to another's, where neither is null.
-    pub(crate) fn cmp_at(&self, i: usize, other: &Self, j: usize) -> Ordering
+    #[inline]
+    pub fn cmp_at(&self, i: usize, other: &Self, j: usize) -> Ordering
         requires inside { i < length self.now }
         requires other_inside { j < length other.now }
         requires valid { is_nil (slot_at self.now i) ≡ false }
