@@ -1,15 +1,22 @@
 -- Aggregates whose column is missing, or of an unfitting type.
-use Rattle.std.proofs.Common.{◌≡◌, ℕ, ◌<◌, Bool, true, false, List, [], ◌∷◌, Option, Some, None, is_none, cond, length, get_or, refl, sym, ◌∙◌, ap}
+use Rattle.std.proofs.Common.{◌≡◌, ℕ, ◌<◌, Bool, true, false, List, [], ◌∷◌, Option, Some, None, inl, inr, is_none, cond, length, map, get_or, refl, sym, ◌∙◌, ap}
+use Rattle.std.proofs.lemmas.Bool.{cases_Bool}
+use Rattle.std.proofs.lemmas.Slice.Eq.{bytes_eq-Decides}
+use Rattle.std.specs.Str.{bytes_eq}
 use Rattle.std.specs.Option.{option_or}
-use Rattle.gb_defs.specs.Column.{Frame, find_column}
-use Rattle.gb_defs.specs.Fault.{Fault, ColumnNotFound, Operation, is_groups, missing_fault, unfit_at, unfit_fault, unfit_or}
+use Rattle.gb_defs.specs.Answer.{aggregated, answer_name}
+use Rattle.gb_defs.specs.Column.{ColumnValue, Content, Frame, content, find_column}
+use Rattle.gb_defs.specs.Fault.{Fault, ColumnNotFound, Operation, is_groups, missing_fault, unfit_at, unfit_fault, unfit_operation, unfit_or}
+use Rattle.gb_defs.specs.Fold.{fold_of, fold_type}
+use Rattle.gb_agg.specs.Folds.{folded, unfit_of}
+use Rattle.gb_agg.specs.Method.{method_of}
+use Rattle.gb_agg.specs.declared.method.GroupByMethod.{GroupByMethod}
+use Rattle.gb_agg.specs.declared.method.GroupByMethod.TheVariants.{Min, Max, First, Last, Sum, Count}
 use Rattle.gb_base.specs.PlSmallStr.{name_of}
 use Rattle.gb_series.specs.Frame.{missing_column}
 use Rattle.gb_run.specs.declared.words.Agg.{Agg}
-use Rattle.gb_run.specs.declared.words.GroupByMethod.{GroupByMethod}
-use Rattle.gb_run.specs.declared.words.GroupByMethod.TheVariants.{Sum, Count}
 use Rattle.gb_run.specs.Grouping.{unfit_cause}
-use Rattle.gb_run.specs.Request.{aggs_of, method_of}
+use Rattle.gb_run.specs.Request.{agg_of, aggs_of}
 use Rattle.gb_run.proofs.CauseLemmas.{first_cause, none_at}
 
 module _ (frame : Frame) where
@@ -17,6 +24,10 @@ module _ (frame : Frame) where
   missing_cause agg = missing_column frame (name_of agg.column)
 
   no_groups : (m : GroupByMethod) → is_groups (method_of m) ≡ false
+  no_groups Min = refl
+  no_groups Max = refl
+  no_groups First = refl
+  no_groups Last = refl
   no_groups Sum = refl
   no_groups (Count all) = refl
 
@@ -49,3 +60,34 @@ module _ (frame : Frame) where
   found_at aggs i d lt e =
       no_cause (is_none (find_column frame (name_of (get_or aggs i d).column))) (ColumnNotFound (name_of (get_or aggs i d).column))
       (none_at missing_cause aggs i d lt (sym (missing_is aggs) ∙ e))
+
+-- ---- an aggregate under the name of its answer
+
+-- the column that is found by a name has it
+pub found_named : (frame : Frame) (name : List ℕ) (c : ColumnValue) → find_column frame name ≡ Some c → c.name ≡ name
+found_named [] name c e = cc
+found_named (d ∷ ds) name c e = elim (cases_Bool (bytes_eq d.name name)) [
+  | inl same ↦
+      let here : Some d ≡ Some c = rw same at e in
+      let is : d ≡ c = cc in
+      sym (ap (λ (v : ColumnValue). v.name) is) ∙ (bytes_eq-Decides d.name name).0 same
+  | inr other ↦ found_named ds name c (rw other at e)
+]
+
+module _ (frame : Frame) (agg : Agg) (c : ColumnValue) (found : find_column frame (name_of agg.column) ≡ Some c) where
+  -- it is refused for the type of its column
+  pub found_unfit : unfit_of (method_of agg.method) c ≡ unfit_cause frame agg
+  found_unfit =
+      ap (λ (name : List ℕ). unfit_or name (unfit_operation (method_of agg.method) c.dtype) None) (found_named frame (name_of agg.column) c found)
+      ∙ ap (λ (o : Option ColumnValue). unfit_or (name_of agg.column) (unfit_at (method_of agg.method) o) None) (sym found)
+
+  -- and else is the answer's column once it is named
+  pub found_renamed : (lists : List (List ℕ)) (folded_column named : ColumnValue) (name : List ℕ) → content folded_column ≡ content (folded (method_of agg.method) c lists)
+      → name ≡ answer_name (name_of agg.column) (method_of agg.method) → named ≡ record folded_column { name = name }
+      → content named ≡ aggregated (agg_of agg) (find_column frame (name_of agg.column)) lists
+  found_renamed lists folded_column named name same is renamed =
+      let method = method_of agg.method in
+      ap content renamed
+      ∙ ap (λ (x : Content). record { name = name; dtype = x.dtype; slots = x.slots }) same
+      ∙ ap (λ (n : List ℕ). record { name = n; dtype = fold_type method c.dtype; slots = map (fold_of method c.dtype c.slots) lists }) is
+      ∙ ap (λ (o : Option ColumnValue). aggregated (agg_of agg) o lists) (sym found)

@@ -1,8 +1,6 @@
 pub mod AggLemmas
 pub mod CauseLemmas
 pub mod CutLemmas
-pub mod FoldingLemmas
-pub mod GroupPartLemmas
 pub mod GroupingLemmas
 pub mod PartLemmas
 pub mod ReportLemmas

@@ -1,7 +1,7 @@
 -- How rows are grouped does not change with chunks, nor with columns that are not asked for; the line of a trace.
-use Rattle.std.proofs.Common.{◌≡◌, ◌≢◌, ℕ, ◌<◌, Bool, true, false, inl, inr, List, [], ◌∷◌, ◌++◌, ◌∙◌, Result, Ok, Err, length, map, refl, sym, ap, subst}
+use Rattle.std.proofs.Common.{◌≡◌, ◌≢◌, ℕ, ◌<◌, Bool, true, false, inl, inr, List, [], ◌∷◌, ◌∙◌, Result, Ok, Err, length, map, refl, sym, ap, subst}
 use Rattle.std.proofs.lemmas.Bool.{cases_Bool}
-use Rattle.gb_defs.specs.Answer.{agree_of, height_of, kept_rows, stretched_key}
+use Rattle.gb_defs.specs.Answer.{agree_of, kept_rows, stretched_key}
 use Rattle.gb_defs.specs.Classes.{agree_by, firsts, rows_below}
 use Rattle.gb_defs.specs.Column.{Ascending, ColumnValue, Descending, Frame, IsDetected, IsFrame, NotSorted, SortedFlag, frame_height, rechunked}
 use Rattle.gb_defs.specs.Fold.{Method}

@@ -9,7 +9,7 @@ use Rattle.gb_defs.specs.Groups.{Grouping, first_of}
 use Rattle.gb_defs.specs.Outcome.{grouped}
 use Rattle.gb_base.specs.PlSmallStr.{name_of}
 use Rattle.gb_run.specs.declared.words.Agg.{Agg}
-use Rattle.gb_run.specs.Request.{method_of}
+use Rattle.gb_agg.specs.Method.{method_of}
 
 -- the first row of each group
 abbrev pub firsts_in : Grouping → List ℕ

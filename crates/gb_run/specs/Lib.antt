@@ -1,5 +1,3 @@
-pub mod Folds
-pub mod GroupPart
 pub mod Grouping
 pub mod Request
 pub mod Run

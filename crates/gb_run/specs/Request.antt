@@ -4,16 +4,11 @@ use Rattle.gb_defs.specs.Fold as fold
 use Rattle.gb_defs.specs.Request as asked
 use Rattle.gb_base.specs.PlSmallStr.{name_of}
 use Rattle.gb_base.specs.declared.small_str.PlSmallStr.{PlSmallStr}
-use Rattle.gb_run.specs.declared.words.GroupByMethod.{GroupByMethod}
-use Rattle.gb_run.specs.declared.words.GroupByMethod.TheVariants.{Sum, Count}
+use Rattle.gb_agg.specs.Method.{method_of}
 use Rattle.gb_run.specs.declared.words.Agg.{Agg}
 use Rattle.gb_run.specs.declared.words.ToolOptions.{ToolOptions}
 use Rattle.gb_run.specs.declared.words.Request.{Request}
 use Rattle.gb_run.specs.declared.words.Request.TheVariants.{Group}
-
-abbrev pub method_of : GroupByMethod → fold.Method
-method_of Sum = fold.Sum
-method_of (Count all) = fold.Count all
 
 abbrev pub agg_of : Agg → List ℕ × fold.Method
 agg_of agg = (name_of agg.column, method_of agg.method)

@@ -22,8 +22,9 @@ ghost use Rattle.gb_run.specs.Grouping.{grouping_fault, unfit_cause};
 ghost use Rattle.gb_run.specs.Request.{agg_of, aggs_of, names_of};
 ghost use Rattle.gb_text.specs.Text.{contents_of};
 
-use crate::folds::by_workers::aggregate_all;
 use crate::words::Agg;
+use gb_agg::by_workers::aggregate_all;
+use gb_agg::method::fmt_group_by_column;
 use gb_base::device::Gate;
 use gb_base::error::{PolarsError, PolarsResult};
 use gb_base::nullable_idx::IdxSize;
@@ -243,6 +244,9 @@ fn found_aggregate<R: Threads + Sync>(
     ensures fits { OnOk result (unfit_cause frame.now agg.now ≡ None) }
     ensures err { IfErr result (λ e. Explains e (unfit_cause frame.now agg.now)) }
 {
-    let column = frame.column(agg.column.as_str())?;
-    aggregate_all(rt, alloc, column, agg, groups, pool)
+    let name = agg.column.as_str();
+    let column = frame.column(name)?;
+    let mut folded = aggregate_all(rt, alloc, column, agg.method, groups, pool)?;
+    folded.rename(fmt_group_by_column(alloc, name, agg.method)?);
+    Ok(folded)
 }

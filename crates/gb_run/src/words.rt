@@ -6,21 +6,14 @@ ghost use Rattle.std.specs.List.{list_all};
 ghost use Rattle.std.specs.String.{string_bytes};
 ghost use Rattle.gb_defs.specs.Request as asked;
 ghost use Rattle.gb_base.specs.PlSmallStr.{IsNoMemory, name_of};
+ghost use Rattle.gb_agg.specs.Method.{method_of};
 ghost use Rattle.gb_run.specs.Request as made;
 ghost use Rattle.gb_run.specs.Words.{given_of, numbers_of};
 
+use gb_agg::method::GroupByMethod;
 use gb_base::error::PolarsResult;
 use gb_base::small_str::PlSmallStr;
 use std::alloc::Global;
-
-/// What is made of the slots of a column at the rows of a group.
-#[derive(Clone, Copy, Debug, PartialEq, Eq)]
-pub enum GroupByMethod {
-    /// The valid slots added, wrapping in the column's type.
-    Sum,
-    /// The number of rows, or of valid slots.
-    Count { include_nulls: bool },
-}
 
 /// A method and the column that it is asked of.
 #[derive(Drop)]
@@ -137,7 +130,7 @@ pub struct Given {
 }
 
 fn new_agg(alloc: Global, column: &str, method: GroupByMethod) -> PolarsResult<Agg>
-    ensures ok { IfOk result (λ agg. made.agg_of agg ≡ (column.now, made.method_of method)) }
+    ensures ok { IfOk result (λ agg. made.agg_of agg ≡ (column.now, method_of method)) }
     ensures err { IfErr result IsNoMemory }
 {
     Ok(Agg {

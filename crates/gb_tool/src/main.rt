@@ -7,8 +7,6 @@ mod all_words_tests;
 #[cfg(test)]
 mod flat_tests;
 #[cfg(test)]
-mod fold_tests;
-#[cfg(test)]
 mod gate_tests;
 #[cfg(test)]
 mod table_tests;

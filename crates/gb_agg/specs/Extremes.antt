@@ -1,0 +1,34 @@
+-- Rows of the least or of the greatest slots of groups.
+use Rattle.std.specs.Prelude.{◌≡◌, ℕ, Bool, false, not, true, List, if◌then◌else◌}
+use Rattle.gb_defs.specs.Column.{ColumnValue}
+use Rattle.gb_defs.specs.ColumnType.{ColumnType}
+use Rattle.gb_defs.specs.Fault.{has_least}
+use Rattle.gb_defs.specs.Order.{ByText, InFolds, below}
+use Rattle.gb_defs.specs.Slot.{Slot, Nil}
+use Rattle.gb_compare.specs.Placed.{placed_below}
+use Rattle.gb_agg.specs.Folds.{extreme, fold_in}
+use Rattle.gb_agg.specs.Picks.{ArePicks}
+
+-- whether a slot is less than another in folds: nulls before every value, or behind every value
+abbrev pub ranked_below : Bool → ColumnType → Slot → Slot → Bool
+ranked_below nulls_last t Nil Nil = false
+ranked_below nulls_last t Nil b = not nulls_last
+ranked_below nulls_last t a Nil = nulls_last
+ranked_below nulls_last t a b = below InFolds t a b
+
+-- a slot is less than another, or greater where that is asked; a null is neither
+abbrev pub is_better : Bool → ColumnType → Slot → Slot → Bool
+is_better greatest t a b = if greatest then ranked_below false t b a else ranked_below true t a b
+
+-- the same by how columns are compared, categories by their texts
+abbrev pub compares_better : Bool → ColumnType → Slot → Slot → Bool
+compares_better greatest t a b = if greatest then placed_below false t b a else placed_below true t a b
+
+-- in folds, slots of the type are in the order in which a column is compared
+abbrev pub FoldsAsCompared : ColumnType → Type 0
+FoldsAsCompared t = (a b : Slot) → below InFolds t a b ≡ below ByText t a b
+
+-- the column has least slots, and these are the rows of those of each list, or of the greatest
+pub record AreExtremes (greatest : Bool) (c : ColumnValue) (lists : List (List ℕ)) (rows : List ℕ) : Type 0 where
+  pub ordered : has_least c.dtype ≡ true
+  pub picks : ArePicks c (fold_in (extreme greatest) c) lists rows

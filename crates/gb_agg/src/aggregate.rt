@@ -1,0 +1,228 @@
+//! An aggregate of a column over some groups, by its method.
+
+ghost use Rattle.std.specs.Prelude.{◌≡◌, IfErr, IfOk, MatchOption, None, OnOk, Some, false, length, option_map, true};
+ghost use Rattle.gb_defs.specs.ColumnType.{uint32};
+ghost use Rattle.gb_defs.specs.Fault.{InvalidOperation, has_least, has_sum};
+ghost use Rattle.gb_defs.specs.Fold.{Count, Sum, sum_type};
+ghost use Rattle.gb_defs.specs.Groups.{HasRowNumbers, lists_in};
+ghost use Rattle.gb_base.specs.PlSmallStr.{IsNoMemory, name_of};
+ghost use Rattle.gb_base.specs.PolarsError.{Explains, operation_of};
+ghost use Rattle.gb_flat_series.specs.FlatSeries.{column_of};
+ghost use Rattle.gb_series.specs.Series.{value_of};
+ghost use Rattle.gb_agg.specs.Extremes.{AreExtremes};
+ghost use Rattle.gb_agg.specs.Folds.{AreGroupsOf, extreme, fold_column, fold_in, folded, sums_of_column, unfit_of};
+ghost use Rattle.gb_agg.specs.GroupPart.{part_of};
+ghost use Rattle.gb_agg.specs.Method.{method_of};
+
+use crate::extremes::extreme_rows;
+use crate::group_part::GroupPart;
+use crate::group_sums::GroupSums;
+use crate::method::GroupByMethod;
+use crate::number_fold::{RowCount, ValidCount, fold_groups};
+use crate::row_pick::{FirstRow, LastRow, RowPick, pick_groups, take_picks};
+use gb_base::error::{Operation, PolarsError, PolarsResult};
+use gb_base::nullable_idx::IdxSize;
+use gb_base::small_str::PlSmallStr;
+use gb_cols::primitive::UInt32Chunked;
+use gb_cols::series_trait::SeriesTrait;
+use gb_flat_series::series::FlatSeries;
+use gb_flat_series::{map_sums, of_column};
+use gb_series::into_series::IntoSeries;
+use gb_series::series::Series;
+use std::alloc::Global;
+
+/// The aggregate over the rows of each group, under the column's name, unless the type of the column has none.
+/// A row's slot is read fast where the column has one chunk.
+pub fn aggregate(
+    column: &Series,
+    method: GroupByMethod,
+    groups: &GroupPart<'_>,
+) -> PolarsResult<Series>
+    requires groups { AreGroupsOf (value_of column.now) (part_of groups.now) }
+    requires short { HasRowNumbers (length (value_of column.now).slots) }
+    ensures fits { OnOk result (unfit_of (method_of method) (value_of column.now) ≡ None) }
+    ensures ok { IfOk result (λ s. value_of s
+        ≡ folded (method_of method) (value_of column.now) (lists_in (part_of groups.now))) }
+    ensures err { IfErr result (λ e.
+        Explains e (unfit_of (method_of method) (value_of column.now))) }
+{
+    match method {
+        GroupByMethod::Min => column_extremes(column, false, groups),
+        GroupByMethod::Max => column_extremes(column, true, groups),
+        GroupByMethod::First => picked(column, &FirstRow::new(column), groups),
+        GroupByMethod::Last => picked(column, &LastRow::new(column), groups),
+        GroupByMethod::Sum => column_sums(column, groups),
+        GroupByMethod::Count { include_nulls } => {
+            Ok(column_counts(column, include_nulls, groups)?.into_series())
+        }
+    }
+}
+
+// The slots at the rows that are picked.
+fn picked<P: RowPick>(column: &Series, pick: &P, groups: &GroupPart<'_>) -> PolarsResult<Series>
+    requires column { P.column pick.now ≡ value_of column.now }
+    requires groups { AreGroupsOf (value_of column.now) (part_of groups.now) }
+    requires short { HasRowNumbers (length (value_of column.now).slots) }
+    ensures ok { let c = value_of column.now in IfOk result (λ s. value_of s
+        ≡ fold_column c.name c.dtype (P.fold pick.now) (lists_in (part_of groups.now))) }
+    ensures err { IfErr result IsNoMemory }
+{
+    let rows = pick_groups(column.allocator(), pick, groups)?;
+    take_picks(column, &rows)
+}
+
+// The refusal of an operation that a column's type does not have.
+fn unfit(column: &Series, operation: Operation) -> PolarsError
+    ensures { Explains result
+        (Some (InvalidOperation (operation_of operation) (value_of column.now).name)) }
+{
+    match column.name().try_clone() {
+        Ok(name) => PolarsError::InvalidOperation(operation, name),
+        Err(e) => e,
+    }
+}
+
+// The rows of the least slots, or of the greatest, None where the column's type has none.
+fn series_extremes(
+    alloc: Global,
+    column: &Series,
+    greatest: bool,
+    groups: &GroupPart<'_>,
+) -> PolarsResult<Option<Vec<IdxSize>>>
+    requires groups { AreGroupsOf (value_of column.now) (part_of groups.now) }
+    requires short { HasRowNumbers (length (value_of column.now).slots) }
+    ensures ok { let lists = lists_in (part_of groups.now) in
+        IfOk result (λ found. MatchOption found (has_least (value_of column.now).dtype ≡ false)
+        (λ rows. AreExtremes greatest (value_of column.now) lists rows.items)) }
+    ensures err { IfErr result IsNoMemory }
+{
+    match column {
+        Series::Flat(column) => flat_extremes(alloc, column, greatest, groups),
+        // The calls tell the column's type, which has no least slot.
+        Series::List(column) => {
+            column.tell_type();
+            Ok(None)
+        }
+        Series::Array(column) => {
+            column.tell_type();
+            Ok(None)
+        }
+        Series::Struct(column) => {
+            column.tell_type();
+            Ok(None)
+        }
+    }
+}
+
+// The same of a column of a flat type.
+fn flat_extremes(
+    alloc: Global,
+    column: &FlatSeries,
+    greatest: bool,
+    groups: &GroupPart<'_>,
+) -> PolarsResult<Option<Vec<IdxSize>>>
+    requires groups { AreGroupsOf (column_of column.now) (part_of groups.now) }
+    requires short { HasRowNumbers (length (column_of column.now).slots) }
+    ensures ok { let lists = lists_in (part_of groups.now) in
+        IfOk result (λ found. MatchOption found (has_least (column_of column.now).dtype ≡ false)
+        (λ rows. AreExtremes greatest (column_of column.now) lists rows.items)) }
+    ensures err { IfErr result IsNoMemory }
+{
+    of_column!(column, column => extreme_rows(alloc, column, greatest, groups))
+}
+
+// The least slots, or the greatest, unless the column's type has none.
+fn column_extremes(column: &Series, greatest: bool, groups: &GroupPart<'_>) -> PolarsResult<Series>
+    requires groups { AreGroupsOf (value_of column.now) (part_of groups.now) }
+    requires short { HasRowNumbers (length (value_of column.now).slots) }
+    ensures fits { OnOk result (unfit_of (extreme greatest) (value_of column.now) ≡ None) }
+    ensures ok { IfOk result (λ s. value_of s
+        ≡ folded (extreme greatest) (value_of column.now) (lists_in (part_of groups.now))) }
+    ensures err { IfErr result (λ e.
+        Explains e (unfit_of (extreme greatest) (value_of column.now))) }
+{
+    match series_extremes(column.allocator(), column, greatest, groups)? {
+        Some(rows) => take_picks(column, &rows),
+        None if greatest => Err(unfit(column, Operation::Max)),
+        None => Err(unfit(column, Operation::Min)),
+    }
+}
+
+// The sums of a column, None where its type has none.
+fn series_sums(column: &Series, groups: &GroupPart<'_>) -> PolarsResult<Option<Series>>
+    requires { AreGroupsOf (value_of column.now) (part_of groups.now) }
+    ensures ok { let lists = lists_in (part_of groups.now) in
+        IfOk result (λ sums. option_map value_of sums
+        ≡ sums_of_column (value_of column.now).name (value_of column.now) lists) }
+    ensures err { IfErr result IsNoMemory }
+{
+    let name = column.name().try_clone()?;
+    match column {
+        Series::Flat(column) => match flat_sums(name, column, groups)? {
+            Some(sums) => Ok(Some(Series::Flat(sums))),
+            None => Ok(None),
+        },
+        // The calls tell the column's type, which has no sum.
+        Series::List(column) => {
+            column.tell_type();
+            Ok(None)
+        }
+        Series::Array(column) => {
+            column.tell_type();
+            Ok(None)
+        }
+        Series::Struct(column) => {
+            column.tell_type();
+            Ok(None)
+        }
+    }
+}
+
+// The sums of a column of a flat type, None where its type has none.
+fn flat_sums(
+    name: PlSmallStr,
+    column: &FlatSeries,
+    groups: &GroupPart<'_>,
+) -> PolarsResult<Option<FlatSeries>>
+    requires { AreGroupsOf (column_of column.now) (part_of groups.now) }
+    ensures ok { let lists = lists_in (part_of groups.now) in
+        IfOk result (λ sums. option_map column_of sums
+        ≡ sums_of_column (name_of name) (column_of column.now) lists) }
+    ensures err { IfErr result IsNoMemory }
+{
+    map_sums!(column, column => column.group_sums(name, groups)?)
+}
+
+// The sums of a column, unless its type has none.
+fn column_sums(column: &Series, groups: &GroupPart<'_>) -> PolarsResult<Series>
+    requires groups { AreGroupsOf (value_of column.now) (part_of groups.now) }
+    ensures fits { OnOk result (has_sum (value_of column.now).dtype ≡ true) }
+    ensures ok { IfOk result (λ s. value_of s
+        ≡ folded Sum (value_of column.now) (lists_in (part_of groups.now))) }
+    ensures err { IfErr result (λ e. Explains e (unfit_of Sum (value_of column.now))) }
+{
+    match series_sums(column, groups)? {
+        Some(sums) => Ok(sums),
+        None => Err(unfit(column, Operation::Sum)),
+    }
+}
+
+// The number of rows, or of valid slots, of each group.
+fn column_counts(
+    column: &Series,
+    include_nulls: bool,
+    groups: &GroupPart<'_>,
+) -> PolarsResult<UInt32Chunked>
+    requires groups { AreGroupsOf (value_of column.now) (part_of groups.now) }
+    requires short { HasRowNumbers (length (value_of column.now).slots) }
+    ensures ok { let c = value_of column.now in IfOk result (λ counts.
+        counts ≡ folded (Count include_nulls) c (lists_in (part_of groups.now))) }
+    ensures err { IfErr result IsNoMemory }
+{
+    let name = column.name().try_clone()?;
+    if include_nulls {
+        fold_groups(column.allocator(), name, &RowCount, groups)
+    } else {
+        fold_groups(column.allocator(), name, &ValidCount::new(column), groups)
+    }
+}

@@ -1,0 +1,136 @@
+//! The aggregate over all groups, each worker some groups that follow each other.
+
+ghost use Rattle.std.specs.Prelude.{◌≡◌, ◌+◌, ◌<◌, ◌≤◌, ◌^◌, All, None, IfErr, IfOk, OnOk, length};
+ghost use Rattle.gb_defs.specs.Column.{content};
+ghost use Rattle.gb_defs.specs.Groups.{HasRowNumbers};
+ghost use Rattle.gb_base.specs.PlSmallStr.{IsNoMemory};
+ghost use Rattle.gb_base.specs.PolarsError.{Explains};
+ghost use Rattle.gb_groups.specs.GroupsType.{groups_of};
+ghost use Rattle.gb_series.specs.Series.{value_of};
+ghost use Rattle.gb_agg.specs.Folds.{AreGroupsOf, IsAggregateOf, joined_content, slots_of_parts, unfit_of};
+ghost use Rattle.gb_agg.specs.GroupPart.{part_from};
+ghost use Rattle.gb_agg.specs.Method.{method_of};
+
+use crate::aggregate::aggregate;
+use crate::group_part::GroupPart;
+use crate::method::GroupByMethod;
+use gb_base::error::PolarsResult;
+use gb_base::pool::Pool;
+use gb_cols::series_trait::SeriesTrait;
+use gb_flat::shares::map_shares;
+use gb_groups::groups_type::GroupsType;
+use gb_series::series::Series;
+use std::alloc::Global;
+use std::thread::Threads;
+
+// So many rows are worth a thread: it is a guess at the rows that are folded while one starts.
+const ROWS_A_WORKER: usize = 16_384;
+
+// Whether an aggregate over so many groups reads a column's chunks as they lie: one that looks at no slot, and one
+// that seeks chunks from the last one on where passing them once for each group takes less than a copy.
+fn reads_chunks(method: GroupByMethod, chunks: usize, rows: usize, groups: usize) -> bool {
+    match method {
+        GroupByMethod::Sum | GroupByMethod::First | GroupByMethod::Last => {
+            groups.saturating_mul(chunks) <= rows.saturating_mul(8)
+        }
+        GroupByMethod::Count { include_nulls } => include_nulls,
+        GroupByMethod::Min | GroupByMethod::Max => false,
+    }
+}
+
+// `aggregate_all` of a column of one chunk.
+fn aggregate_whole<R: Threads + Sync>(
+    rt: &R,
+    alloc: Global,
+    column: &Series,
+    method: GroupByMethod,
+    groups: &GroupsType,
+    pool: &Pool,
+) -> PolarsResult<Series>
+    requires groups { AreGroupsOf (value_of column.now) (groups_of groups.now) }
+    requires short { HasRowNumbers (length (value_of column.now).slots) }
+    ensures fits { OnOk result (unfit_of (method_of method) (value_of column.now) ≡ None) }
+    ensures ok { IfOk result
+        (IsAggregateOf method (value_of column.now) (groups_of groups.now)) }
+    ensures err { IfErr result (λ e.
+        Explains e (unfit_of (method_of method) (value_of column.now))) }
+{
+    let count = groups.len();
+    let workers = pool.workers().min(column.len() / ROWS_A_WORKER);
+    if workers < 2 {
+        return aggregate(column, method, &GroupPart::new(groups, 0, count));
+    }
+    // Over no groups: what the column's type has not is refused here.
+    let none = aggregate(column, method, &GroupPart::new(groups, 0, 0))?;
+    let part = |range: (usize, usize)| -> PolarsResult<Series>
+        requires { range.0 + range.1 ≤ length (groups_of groups.now).pairs
+            × AreGroupsOf (value_of column.now) (groups_of groups.now)
+            × HasRowNumbers (length (value_of column.now).slots)
+            × unfit_of (method_of method) (value_of column.now) ≡ None }
+        ensures { IfOk result (IsAggregateOf method (value_of column.entry.now)
+            (part_from (groups_of groups.entry.now) range.0 range.1))
+            × IfErr result IsNoMemory }
+    { aggregate_part(column, method, groups, range) };
+    let made = map_shares(rt, alloc, count, workers, &part)?;
+    append_all(none, made)
+}
+
+/// `aggregate` over all groups, by as many workers as the pool has where there are many rows. With one worker
+/// no thread is started. The rows of a group stand in all chunks of a column, so where there are many groups
+/// several chunks are put into one before.
+pub fn aggregate_all<R: Threads + Sync>(
+    rt: &R,
+    alloc: Global,
+    column: &Series,
+    method: GroupByMethod,
+    groups: &GroupsType,
+    pool: &Pool,
+) -> PolarsResult<Series>
+    requires groups { AreGroupsOf (value_of column.now) (groups_of groups.now) }
+    requires short { HasRowNumbers (length (value_of column.now).slots) }
+    ensures fits { OnOk result (unfit_of (method_of method) (value_of column.now) ≡ None) }
+    ensures ok { IfOk result
+        (IsAggregateOf method (value_of column.now) (groups_of groups.now)) }
+    ensures err { IfErr result (λ e.
+        Explains e (unfit_of (method_of method) (value_of column.now))) }
+{
+    let chunks = column.n_chunks();
+    if chunks == 1 || reads_chunks(method, chunks, column.len(), groups.len()) {
+        return aggregate_whole(rt, alloc, column, method, groups, pool);
+    }
+    let whole = column.rechunk()?;
+    aggregate_whole(rt, alloc, &whole, method, groups, pool)
+}
+
+// `aggregate` over the groups of a range, its first and how many they are, where the type of the column has
+// it.
+fn aggregate_part(
+    column: &Series,
+    method: GroupByMethod,
+    groups: &GroupsType,
+    range: (usize, usize),
+) -> PolarsResult<Series>
+    requires inside { range.0 + range.1 ≤ length (groups_of groups.now).pairs }
+    requires groups { AreGroupsOf (value_of column.now) (groups_of groups.now) }
+    requires short { HasRowNumbers (length (value_of column.now).slots) }
+    requires fits { unfit_of (method_of method) (value_of column.now) ≡ None }
+    ensures ok { IfOk result (IsAggregateOf method (value_of column.now)
+        (part_from (groups_of groups.now) range.0 range.1)) }
+    ensures err { IfErr result IsNoMemory }
+{
+    aggregate(column, method, &GroupPart::new(groups, range.0, range.1))
+}
+
+// The slots of the others behind those of a column.
+fn append_all(mut all: Series, others: Vec<Series>) -> PolarsResult<Series>
+    requires typed { All (λ s. (value_of s).dtype ≡ (value_of all).dtype) others.items }
+    requires few { length (value_of all).slots + length (slots_of_parts others.items) < 2 ^ 63 }
+    ensures ok { IfOk result (λ s. content (value_of s)
+        ≡ joined_content (value_of all) others.items) }
+    ensures err { IfErr result IsNoMemory }
+{
+    for other in others {
+        all.append(other)?;
+    }
+    Ok(all)
+}

@@ -1,0 +1,14 @@
+//! Aggregates: what is made of a column's slots at the rows of each group.
+#![tactic(auto)]
+
+pub mod aggregate;
+pub mod by_workers;
+mod extremes;
+pub mod fold_order;
+pub mod group_part;
+pub mod group_rows;
+mod group_sums;
+pub mod method;
+pub mod number_fold;
+pub mod row_pick;
+pub mod slot_fold;

@@ -1,0 +1,143 @@
+//! Folds that take the slots of a column one after another: those of a list of rows, or all of a column at once,
+//! each into what is known of its row's group.
+
+ghost use Rattle.std.specs.Prelude.{◌≡◌, ◌<◌, ◌++◌, ◌∷◌, [], All, IfOk, List, length, pos};
+ghost use Rattle.gb_defs.specs.ColumnType.{Boolean, Flat};
+ghost use Rattle.gb_defs.specs.Fold.{picked, total, valid, wrap};
+ghost use Rattle.gb_defs.specs.Slot.{Slot, slot_at};
+ghost use Rattle.gb_agg.specs.Numbered.{HoldEach};
+
+use crate::group_rows::GroupRows;
+use gb_cols::chunked::ChunkedArray;
+use gb_cols::near_chunk::NearChunk;
+use gb_groups::row_lists::Members;
+use gb_numbers::numeric::{Native, PolarsNumericType};
+use gb_values::boolean::FlagValues;
+use gb_values::nullable::{NullableArray, Values};
+use gb_values::primitive::NumberValues;
+use std::alloc::{AllocError, Global};
+
+/// What takes slots one after another.
+pub trait SlotFold<V: Values> {
+    /// What is known of the slots so far.
+    type State: Copy;
+
+    // That it is known of these slots.
+    ghost holds: { Self → List Slot → Self.State → Type 0 };
+
+    /// Before any slot.
+    fn start(&self) -> Self::State
+        ensures { holds self.now [] result };
+
+    /// With one slot more.
+    fn with_slot(&self, state: Self::State, chunk: &NullableArray<V>, at: usize) -> Self::State
+        requires { at < length chunk.now }
+        ensures { (slots : List Slot) → holds self.now slots state
+            → holds self.now (slots ++ slot_at chunk.now at ∷ []) result };
+}
+
+/// The sum of numbers, wrapped in their type, or how many flags are true, wrapped in 32 bits.
+#[derive(Drop)]
+pub struct SumFold;
+
+impl<T: PolarsNumericType> SlotFold<NumberValues<T>> for SumFold {
+    type State = T::Native;
+
+    ghost holds = { λ _ slots sum. T.Native.number sum ≡ wrap (Flat T.Native.flat) (total (valid slots)) };
+
+    #[inline]
+    fn start(&self) -> T::Native {
+        T::Native::zero()
+    }
+
+    #[inline]
+    fn with_slot(
+        &self,
+        sum: T::Native,
+        chunk: &NullableArray<NumberValues<T>>,
+        at: usize,
+    ) -> T::Native {
+        match chunk.get(at) {
+            Some(number) => sum.add_wrapped(number),
+            None => sum,
+        }
+    }
+}
+
+impl SlotFold<FlagValues> for SumFold {
+    type State = u32;
+
+    ghost holds = { λ _ slots sum. pos sum ≡ wrap (Flat Boolean) (total (valid slots)) };
+
+    #[inline]
+    fn start(&self) -> u32 {
+        0
+    }
+
+    #[inline]
+    fn with_slot(&self, sum: u32, chunk: &NullableArray<FlagValues>, at: usize) -> u32 {
+        match chunk.get(at) {
+            Some(flag) => sum.add_wrapped(u32::from(flag)),
+            None => sum,
+        }
+    }
+}
+
+/// What is known of the slots at these rows.
+pub fn fold_rows<V: Values, F: SlotFold<V>, R: GroupRows>(
+    column: &ChunkedArray<V>,
+    fold: &F,
+    rows: &R,
+) -> F::State
+    requires { All (λ row. row < length column.now.slots) (R.rows rows.now) }
+    ensures { F.holds fold.now (picked column.now.slots (R.rows rows.now)) result }
+{
+    let mut near = NearChunk::new(column);
+    let mut state = fold.start();
+    for place in 0..rows.count() {
+        let (chunk, at) = near.locate(rows.row_at(place));
+        state = fold.with_slot(state, chunk, at);
+    }
+    state
+}
+
+/// What is known of each group's slots, from the number of each row's group.
+pub fn fold_numbered<V: Values, F: SlotFold<V>, M: Members>(
+    alloc: Global,
+    column: &ChunkedArray<V>,
+    fold: &F,
+    rows: &M,
+    numbers: &[u32],
+    groups: usize,
+) -> Result<Vec<F::State>, AllocError>
+    requires inside { All (λ row. row < length column.now.slots) (M.listed rows.now) }
+    requires each { length numbers.now ≡ length (M.listed rows.now) }
+    requires known { All (λ number. number < groups) numbers.now }
+    ensures { IfOk result (λ states. HoldEach (F.holds fold.now) column.now.slots
+        (M.listed rows.now) numbers.now groups states.items) }
+{
+    let mut near = NearChunk::new(column);
+    let mut states = fresh_states(alloc, fold, groups)?;
+    for (place, number) in numbers.iter().enumerate() {
+        let (chunk, at) = near.locate(rows.row_at(place) as usize);
+        let state = states[*number as usize];
+        states[*number as usize] = fold.with_slot(state, chunk, at);
+    }
+    Ok(states)
+}
+
+// What is known of so many groups before any slot.
+fn fresh_states<V: Values, F: SlotFold<V>>(
+    alloc: Global,
+    fold: &F,
+    groups: usize,
+) -> Result<Vec<F::State>, AllocError>
+    ensures as_many { IfOk result (λ states. length states.items ≡ groups) }
+    ensures fresh { IfOk result (λ states. All (F.holds fold.now []) states.items) }
+{
+    let mut states = Vec::with_capacity(alloc, groups)?;
+    for _ in 0..groups {
+        states.push(fold.start())?;
+    }
+    Ok(states)
+}

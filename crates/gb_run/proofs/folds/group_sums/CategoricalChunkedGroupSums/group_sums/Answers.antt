@@ -1,6 +1,0 @@
-use Rattle.std.proofs.Common.{refl}
-use Rattle.gb_run.proofs.FoldingLemmas.{no_category_sums}
-use Rattle.gb_run.proofs.folds.group_sums.CategoricalChunkedGroupSums.group_sums.Goals as goal
-
-pub returns-clause-ok : goal.returns-clause-ok
-returns-clause-ok c = rw (no_category_sums c.args.self.now.dtype _ c.get_rev_map.ensures) refl

@@ -1,6 +1,0 @@
-use Rattle.std.proofs.Common.{arith}
-use Rattle.gb_paths.proofs.MemberLemmas.{few_members}
-use Rattle.gb_run.proofs.folds.number_fold.RowCountNumberFold.over.Goals as goal
-
-pub overflow_cast-result : goal.overflow_cast-result
-overflow_cast-result g c = omega (arith, few_members _ _ c.requires)
