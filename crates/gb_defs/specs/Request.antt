@@ -1,11 +1,10 @@
 -- The request that the words of a command line spell: the command, and then options in any order, each
 -- but `--explain` followed by its value.
-use Rattle.std.specs.Prelude.{ℕ, nat_eq, nat_le, ◌&&◌, Bool, true, false, List, [], ◌∷◌, ◌++◌, length, drop, Option, Some, None, option_map, option_and_then, unwrap_or, if◌then◌else◌, codes}
+use Rattle.std.specs.Prelude.{ℕ, ◌+◌, nat_eq, nat_le, ◌&&◌, Bool, true, false, List, [], ◌∷◌, ◌++◌, length, drop, position, take, Option, Some, None, option_map, option_and_then, unwrap_or, if◌then◌else◌, codes}
 use Rattle.std.specs.Str.{bytes_eq}
 use Rattle.std.specs.Str.Parse.{digits_value}
-use Rattle.std.specs.List.{starts_with}
 use Rattle.gb_defs.specs.Cell.{is_numeral}
-use Rattle.gb_defs.specs.Fold.{Method, Sum, Count}
+use Rattle.gb_defs.specs.Fold.{Method, Min, Max, First, Last, Sum, Count}
 
 -- the options of the program
 pub record ToolOptions : Type 0 where
@@ -21,12 +20,26 @@ pub data Request : Type 0 where
   -- the key columns, the aggregates with their columns, and the options
   Group : List (List ℕ) → List (List ℕ × Method) → ToolOptions → Request
 
+-- the method of a word; a count is of all rows, or of the valid ones
+unfoldable pub method_named : List ℕ → Option Method
+method_named word =
+    if bytes_eq word (codes "sum") then Some Sum
+    else if bytes_eq word (codes "min") then Some Min
+    else if bytes_eq word (codes "max") then Some Max
+    else if bytes_eq word (codes "first") then Some First
+    else if bytes_eq word (codes "last") then Some Last
+    else if bytes_eq word (codes "count") then Some (Count true)
+    else if bytes_eq word (codes "valid") then Some (Count false)
+    else None
+
+-- METHOD:NAME, where the colon stands
+abbrev pub agg_at : List ℕ → Option ℕ → Option (List ℕ × Method)
+agg_at word None = None
+agg_at word (Some colon) = option_map (λ method. (drop (colon + 1) word, method)) (method_named (take colon word))
+
 -- METHOD:NAME, the method before the first colon
 unfoldable pub agg_of : List ℕ → Option (List ℕ × Method)
-agg_of word =
-    if starts_with nat_eq word (codes "sum:") then Some (drop 4 word, Sum)
-    else if starts_with nat_eq word (codes "count:") then Some (drop 6 word, Count true)
-    else None
+agg_of word = agg_at word (position (nat_eq 58) word)
 
 -- one to twenty decimal digits, in range
 unfoldable pub number_within : ℕ → ℕ → List ℕ → Option ℕ

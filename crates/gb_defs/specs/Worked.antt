@@ -1,5 +1,5 @@
 -- Requests, columns and slots of the worked rows.
-use Rattle.std.specs.Prelude.{ℕ, Bool, true, List, [], ◌∷◌, Option, Some, None, codes, negsuc, pos, ◌^◌, ◌-◌, replicate}
+use Rattle.std.specs.Prelude.{ℕ, Bool, false, true, List, [], ◌∷◌, Option, Some, None, codes, negsuc, pos, ◌^◌, ◌-◌, replicate}
 use Rattle.std.specs.Int.{w8, w64}
 use Rattle.gb_defs.specs.Slot.{And, Bytes, End, Items, Nil, Num, Slot, slot_at}
 use Rattle.gb_defs.specs.ColumnType.{CategoricalOrdering, ColumnType, Categorical, Decimal, Enum, Flat, Lexical, Unsigned, int64, text}
@@ -10,7 +10,7 @@ use Rattle.gb_defs.specs.Classes.{rows_below, same_slot}
 use Rattle.gb_defs.specs.Hash.{hash_of, row_hash}
 use Rattle.gb_defs.specs.Partitions.{threaded_groups}
 use Rattle.gb_defs.specs.Path.{Path, path_of}
-use Rattle.gb_defs.specs.Fold.{Method, Sum, Count, fold_of}
+use Rattle.gb_defs.specs.Fold.{Min, Max, First, Last, Method, Sum, Count, fold_of}
 use Rattle.gb_defs.specs.Request.{Request, Group, request, default_options}
 
 -- ---- requests
@@ -24,6 +24,11 @@ sums_by_date = Group (codes "date" ∷ []) ((codes "temp", Sum) ∷ (codes "temp
 
 abbrev pub sums_by_key : Request
 sums_by_key = Group (codes "k" ∷ []) ((codes "v", Sum) ∷ []) default_options
+
+-- the least and the greatest, the first and the last, and how many are valid
+abbrev pub ends_by_key : Request
+ends_by_key =
+    Group (codes "k" ∷ []) ((codes "v", Min) ∷ (codes "v", Max) ∷ (codes "v", First) ∷ (codes "v", Last) ∷ (codes "v", Count false) ∷ []) default_options
 
 abbrev pub sums_of_colon : Request
 sums_of_colon = Group (codes "k" ∷ []) ((codes "a:b", Sum) ∷ []) default_options

@@ -4,7 +4,7 @@ ghost use Rattle.std.specs.Prelude.{◌≡◌, codes, [], ◌∷◌, ◌++◌, S
 ghost use Rattle.gb_defs.specs.Outcome.{outcome, Report, BadTable, BadGroup};
 ghost use Rattle.gb_defs.specs.Table.{BadCell, NoHeader, Ragged, SameName};
 ghost use Rattle.gb_defs.specs.Fault.{ColumnNotFound, Duplicate, InvalidOperation, OfSum};
-ghost use Rattle.gb_defs.specs.Worked.{asked, sums_by_date, sums_by_key, sums_of_colon, keys_alone, keys_and_sum, by_day, two_workers, null_by};
+ghost use Rattle.gb_defs.specs.Worked.{asked, ends_by_key, sums_by_date, sums_by_key, sums_of_colon, keys_alone, keys_and_sum, by_day, two_workers, null_by};
 
 /// The request that the words of a command line spell.
 pub fn requests()
@@ -13,6 +13,10 @@ pub fn requests()
         ≡ Some sums_by_date }
     ensures colon { asked (codes "--by" ∷ codes "k" ∷ codes "--agg" ∷ codes "sum:a:b" ∷ [])
         ≡ Some sums_of_colon }
+    ensures methods { asked (codes "--by" ∷ codes "k" ∷ codes "--agg" ∷ codes "min:v"
+        ∷ codes "--agg" ∷ codes "max:v" ∷ codes "--agg" ∷ codes "first:v"
+        ∷ codes "--agg" ∷ codes "last:v" ∷ codes "--agg" ∷ codes "valid:v" ∷ [])
+        ≡ Some ends_by_key }
     ensures command_alone { asked ([]) ≡ None }
     ensures no_value { asked (codes "--by" ∷ codes "k" ∷ codes "--agg" ∷ []) ≡ None }
     ensures unknown_method { asked (codes "--by" ∷ codes "k" ∷ codes "--agg" ∷ codes "total:v" ∷ [])
@@ -54,6 +58,9 @@ pub fn outcomes()
         ≡ Report (codes "k:str,v_sum:i64\n,12\n1,6\n") }
     ensures number_key { outcome sums_by_key (codes "k:i64,v:i64\n,5\n1,6\n,7\n")
         ≡ Report (codes "k:i64,v_sum:i64\n,12\n1,6\n") }
+    ensures ends { outcome ends_by_key (codes "k,v:i64\nx,3\ny,\nx,-1\n")
+        ≡ Report (codes "k:str,v_min:i64,v_max:i64,v_first:i64,v_last:i64,v_count:u32\n"
+        ++ codes "x,-1,3,3,-1,2\ny,,,,,0\n") }
     ensures no_rows { outcome sums_by_key (codes "k,v:i64\n") ≡ Report (codes "k:str,v_sum:i64\n") }
     ensures sums_wrap { outcome sums_by_key (codes "k,v:i64\nx,9223372036854775807\nx,1\n")
         ≡ Report (codes "k:str,v_sum:i64\nx,-9223372036854775808\n") }

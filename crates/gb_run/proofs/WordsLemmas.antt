@@ -16,24 +16,6 @@ use Rattle.gb_defs.specs.Fold.{Sum, Count}
 use Rattle.gb_defs.specs.Request.{Given, agg_of, given_from, group_of, nothing, number_within, request, with_explain, with_option}
 use Rattle.gb_numbers.proofs.DigitLemmas.{digits_model, numeral_tells}
 
--- what `strip_prefix` says, by `starts_with`
-pub strips : (n s : List ℕ) (r : Option (Bor (List ℕ))) → MatchOption r (FindsTextPrefix n s None) (λ x. StripsPrefix (FindsTextPrefix n) s x.now) →
-    MatchOption r (starts_with eqb s n ≡ false) (λ x. (starts_with eqb s n ≡ true) × (x.now ≡ drop (length n) s))
-strips n s None h = sym (starts_text false n s h)
-strips n s (Some x) h = (sym (starts_text true n s (h.0, h.1, rw h.1.0 h.1.2)), h.2 ∙ ap (λ k. drop k s) h.1.0)
-
-pub agg_of-sum : (word : List ℕ) → starts_with eqb word (codes "sum:") ≡ true → agg_of word ≡ Some (drop 4 word, Sum)
-unfolding agg_of
-agg_of-sum word h = rw h
-
-pub agg_of-count : (word : List ℕ) → starts_with eqb word (codes "sum:") ≡ false → starts_with eqb word (codes "count:") ≡ true → agg_of word ≡ Some (drop 6 word, Count true)
-unfolding agg_of
-agg_of-count word n h = rw (n, h)
-
-pub agg_of-none : (word : List ℕ) → starts_with eqb word (codes "sum:") ≡ false → starts_with eqb word (codes "count:") ≡ false → agg_of word ≡ None
-unfolding agg_of
-agg_of-none word n h = rw (n, h)
-
 -- ---- a number within a range
 
 all_digits : (bs : List ℕ) → list_all is_ascii_digit bs ≡ all_ascii_digits bs

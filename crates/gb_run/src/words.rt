@@ -139,21 +139,45 @@ fn new_agg(alloc: Global, column: &str, method: GroupByMethod) -> PolarsResult<A
     })
 }
 
+// The method that a word names.
+#[tactic(auto, unfolding(gb_defs::specs::Request::method_named))]
+fn method_named(word: &str) -> Option<GroupByMethod>
+    ensures { option_map method_of result ≡ asked.method_named word.now }
+{
+    match word {
+        "sum" => Some(GroupByMethod::Sum),
+        "min" => Some(GroupByMethod::Min),
+        "max" => Some(GroupByMethod::Max),
+        "first" => Some(GroupByMethod::First),
+        "last" => Some(GroupByMethod::Last),
+        "count" => Some(GroupByMethod::Count {
+            include_nulls: true,
+        }),
+        "valid" => Some(GroupByMethod::Count {
+            include_nulls: false,
+        }),
+        _ => None,
+    }
+}
+
+// The column and the method that METHOD:NAME names.
+#[tactic(auto, unfolding(gb_defs::specs::Request::agg_of))]
+fn cut_agg(word: &str) -> Option<(&str, GroupByMethod)>
+    ensures { option_map (λ cut. (cut.0.now, method_of cut.1)) result ≡ asked.agg_of word.now }
+{
+    let (method, column) = word.split_once(':')?;
+    Some((column, method_named(method)?))
+}
+
 // The aggregate that METHOD:NAME asks.
 fn agg_of(alloc: Global, word: &str) -> PolarsResult<Option<Agg>>
     ensures ok { IfOk result (λ o. option_map made.agg_of o ≡ asked.agg_of word.now) }
     ensures err { IfErr result IsNoMemory }
 {
-    if let Some(column) = word.strip_prefix("sum:") {
-        return Ok(Some(new_agg(alloc, column, GroupByMethod::Sum)?));
+    match cut_agg(word) {
+        Some((column, method)) => Ok(Some(new_agg(alloc, column, method)?)),
+        None => Ok(None),
     }
-    if let Some(column) = word.strip_prefix("count:") {
-        let method = GroupByMethod::Count {
-            include_nulls: true,
-        };
-        return Ok(Some(new_agg(alloc, column, method)?));
-    }
-    Ok(None)
 }
 
 impl Given {
