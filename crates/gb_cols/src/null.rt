@@ -86,7 +86,7 @@ fn total(counts: &[usize]) -> usize
     counts.iter().sum()
 }
 
-// By a call, as every column is let go of.
+// By a call, as every flat column is let go of.
 impl Drop for NullChunked {
     fn drop(self) {
         let NullChunked {

@@ -52,7 +52,8 @@ pub(crate) fn bucket_rows<M: Members>(
     requires known { All (λ number. number < length counts.now) numbers.now }
     ensures buckets { IfOk result (λ buckets.
         AreBuckets (M.listed rows.now) numbers.now buckets.items) }
-    ensures all { IfOk result (λ buckets. bucket_of (length counts.now) < length buckets.items) }
+    ensures all { IfOk result (λ buckets.
+        bucket_of (length counts.now) < length buckets.items) }
 {
     let mut buckets = empty_buckets(alloc, counts)?;
     deal_rows(buckets.as_mut_slice(), rows, numbers)?;

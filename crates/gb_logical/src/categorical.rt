@@ -58,7 +58,7 @@ impl Model for CategoricalChunked {
     ghost invariant = { λ c. AreCodesOf (arc_value c.map) c.physical c.all_used };
 }
 
-// By a call, as every column is let go of.
+// By a call, as every flat column is let go of.
 impl Drop for CategoricalChunked {
     fn drop(self) {
         let CategoricalChunked {

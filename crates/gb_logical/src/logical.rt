@@ -96,7 +96,7 @@ impl<K: LogicalKind> Model for Logical<K> {
     ghost invariant = { λ c. c.physical.dtype ≡ Flat K.Physical.Native.flat };
 }
 
-// By a call, as every column is let go of.
+// By a call, as every flat column is let go of.
 impl<K: LogicalKind> Drop for Logical<K> {
     fn drop(self) {
         let Logical {
