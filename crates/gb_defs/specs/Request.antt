@@ -4,7 +4,7 @@ use Rattle.std.specs.Prelude.{ℕ, ◌+◌, nat_eq, nat_le, ◌&&◌, Bool, true
 use Rattle.std.specs.Str.{bytes_eq}
 use Rattle.std.specs.Str.Parse.{digits_value}
 use Rattle.gb_defs.specs.Cell.{is_numeral}
-use Rattle.gb_defs.specs.Fold.{Method, Min, Max, First, Last, Sum, Count}
+use Rattle.gb_defs.specs.Fold.{Method, Min, Max, First, Last, Sum, Groups, NUnique, Count, Implode}
 
 -- the options of the program
 pub record ToolOptions : Type 0 where
@@ -20,7 +20,7 @@ pub data Request : Type 0 where
   -- the key columns, the aggregates with their columns, and the options
   Group : List (List ℕ) → List (List ℕ × Method) → ToolOptions → Request
 
--- the method of a word; a count is of all rows, or of the valid ones
+-- the method of a word that stands before a column's name; a count is of all rows, or of the valid ones
 unfoldable pub method_named : List ℕ → Option Method
 method_named word =
     if bytes_eq word (codes "sum") then Some Sum
@@ -28,8 +28,10 @@ method_named word =
     else if bytes_eq word (codes "max") then Some Max
     else if bytes_eq word (codes "first") then Some First
     else if bytes_eq word (codes "last") then Some Last
+    else if bytes_eq word (codes "n_unique") then Some NUnique
     else if bytes_eq word (codes "count") then Some (Count true)
     else if bytes_eq word (codes "valid") then Some (Count false)
+    else if bytes_eq word (codes "list") then Some Implode
     else None
 
 -- METHOD:NAME, where the colon stands
@@ -37,9 +39,9 @@ abbrev pub agg_at : List ℕ → Option ℕ → Option (List ℕ × Method)
 agg_at word None = None
 agg_at word (Some colon) = option_map (λ method. (drop (colon + 1) word, method)) (method_named (take colon word))
 
--- METHOD:NAME, the method before the first colon
+-- the row numbers, which are asked of no column, or METHOD:NAME, the method before the first colon
 unfoldable pub agg_of : List ℕ → Option (List ℕ × Method)
-agg_of word = agg_at word (position (nat_eq 58) word)
+agg_of word = if bytes_eq word (codes "groups") then Some ([], Groups) else agg_at word (position (nat_eq 58) word)
 
 -- one to twenty decimal digits, in range
 unfoldable pub number_within : ℕ → ℕ → List ℕ → Option ℕ

@@ -10,7 +10,7 @@ use Rattle.gb_defs.specs.Classes.{rows_below, same_slot}
 use Rattle.gb_defs.specs.Hash.{hash_of, row_hash}
 use Rattle.gb_defs.specs.Partitions.{threaded_groups}
 use Rattle.gb_defs.specs.Path.{Path, path_of}
-use Rattle.gb_defs.specs.Fold.{Min, Max, First, Last, Method, Sum, Count, fold_of}
+use Rattle.gb_defs.specs.Fold.{Min, Max, First, Last, Method, Sum, Groups, NUnique, Count, Implode, fold_of}
 use Rattle.gb_defs.specs.Request.{Request, Group, request, default_options}
 
 -- ---- requests
@@ -29,6 +29,10 @@ sums_by_key = Group (codes "k" ∷ []) ((codes "v", Sum) ∷ []) default_options
 abbrev pub ends_by_key : Request
 ends_by_key =
     Group (codes "k" ∷ []) ((codes "v", Min) ∷ (codes "v", Max) ∷ (codes "v", First) ∷ (codes "v", Last) ∷ (codes "v", Count false) ∷ []) default_options
+
+-- the row numbers, the slots and how many differ
+abbrev pub lists_by_date : Request
+lists_by_date = Group (codes "date" ∷ []) (([], Groups) ∷ (codes "temp", Implode) ∷ (codes "temp", NUnique) ∷ []) default_options
 
 abbrev pub sums_of_colon : Request
 sums_of_colon = Group (codes "k" ∷ []) ((codes "a:b", Sum) ∷ []) default_options

@@ -4,7 +4,7 @@ ghost use Rattle.std.specs.Prelude.{◌≡◌, codes, [], ◌∷◌, ◌++◌, S
 ghost use Rattle.gb_defs.specs.Outcome.{outcome, Report, BadTable, BadGroup};
 ghost use Rattle.gb_defs.specs.Table.{BadCell, NoHeader, Ragged, SameName};
 ghost use Rattle.gb_defs.specs.Fault.{ColumnNotFound, Duplicate, InvalidOperation, OfSum};
-ghost use Rattle.gb_defs.specs.Worked.{asked, ends_by_key, sums_by_date, sums_by_key, sums_of_colon, keys_alone, keys_and_sum, by_day, two_workers, null_by};
+ghost use Rattle.gb_defs.specs.Worked.{asked, ends_by_key, lists_by_date, sums_by_date, sums_by_key, sums_of_colon, keys_alone, keys_and_sum, by_day, two_workers, null_by};
 
 /// The request that the words of a command line spell.
 pub fn requests()
@@ -17,6 +17,11 @@ pub fn requests()
         ∷ codes "--agg" ∷ codes "max:v" ∷ codes "--agg" ∷ codes "first:v"
         ∷ codes "--agg" ∷ codes "last:v" ∷ codes "--agg" ∷ codes "valid:v" ∷ [])
         ≡ Some ends_by_key }
+    ensures lists { asked (codes "--by" ∷ codes "date" ∷ codes "--agg" ∷ codes "groups"
+        ∷ codes "--agg" ∷ codes "list:temp" ∷ codes "--agg" ∷ codes "n_unique:temp" ∷ [])
+        ≡ Some lists_by_date }
+    ensures groups_alone { asked (codes "--by" ∷ codes "k" ∷ codes "--agg" ∷ codes "groups:k" ∷ [])
+        ≡ None }
     ensures command_alone { asked ([]) ≡ None }
     ensures no_value { asked (codes "--by" ∷ codes "k" ∷ codes "--agg" ∷ []) ≡ None }
     ensures unknown_method { asked (codes "--by" ∷ codes "k" ∷ codes "--agg" ∷ codes "total:v" ∷ [])
@@ -61,6 +66,12 @@ pub fn outcomes()
     ensures ends { outcome ends_by_key (codes "k,v:i64\nx,3\ny,\nx,-1\n")
         ≡ Report (codes "k:str,v_min:i64,v_max:i64,v_first:i64,v_last:i64,v_count:u32\n"
         ++ codes "x,-1,3,3,-1,2\ny,,,,,0\n") }
+    ensures lists { outcome lists_by_date
+        (codes "date,temp:i32\n2020-08-21,20\n2020-08-21,10\n"
+        ++ codes "2020-08-22,7\n2020-08-23,9\n2020-08-22,1\n")
+        ≡ Report (codes "date:str,groups:list[u32],temp_agg_list:list[i32],temp_n_unique:u32\n"
+        ++ codes "2020-08-21,\"[0,1]\",\"[20,10]\",2\n2020-08-22,\"[2,4]\",\"[7,1]\",2\n"
+        ++ codes "2020-08-23,[3],[9],1\n") }
     ensures no_rows { outcome sums_by_key (codes "k,v:i64\n") ≡ Report (codes "k:str,v_sum:i64\n") }
     ensures sums_wrap { outcome sums_by_key (codes "k,v:i64\nx,9223372036854775807\nx,1\n")
         ≡ Report (codes "k:str,v_sum:i64\nx,-9223372036854775808\n") }

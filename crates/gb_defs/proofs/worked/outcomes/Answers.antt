@@ -120,3 +120,7 @@ returns-clause-key_twice c = refl
 pub returns-clause-ends : goal.returns-clause-ends
 unfolding outcome grouped_by table records_from next_record strip_bom head_of type_words cell_slot is_utf8 fault answer firsts is_first class fold_picked frame_text int_wrap escaped fields_text is_blank chars encode digits
 returns-clause-ends c = refl
+
+pub returns-clause-lists : goal.returns-clause-lists
+unfolding outcome grouped_by table records_from next_record strip_bom head_of type_words cell_slot is_utf8 fault answer firsts is_first class fold_picked frame_text int_wrap escaped fields_text is_blank chars encode digits
+returns-clause-lists c = refl

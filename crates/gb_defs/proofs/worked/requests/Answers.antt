@@ -45,3 +45,11 @@ returns-clause-no_key c = refl
 pub returns-clause-methods : goal.returns-clause-methods
 unfolding request given_from with_option with_number number_within agg_of method_named
 returns-clause-methods c = refl
+
+pub returns-clause-lists : goal.returns-clause-lists
+unfolding request given_from with_option with_number number_within agg_of method_named
+returns-clause-lists c = refl
+
+pub returns-clause-groups_alone : goal.returns-clause-groups_alone
+unfolding request given_from with_option with_number number_within agg_of method_named
+returns-clause-groups_alone c = refl
