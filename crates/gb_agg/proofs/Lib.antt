@@ -1,6 +1,9 @@
+pub mod ClassLemmas
+pub mod DistinctLemmas
 pub mod ExtremeLemmas
 pub mod FoldingLemmas
 pub mod GroupPartLemmas
 pub mod ListLemmas
+pub mod ListedLemmas
 pub mod NumberedLemmas
 pub mod PickLemmas

@@ -1,7 +1,7 @@
 -- Folds over lists of rows.
 use Rattle.std.specs.Prelude.{◌≡◌, ◌++◌, ℕ, Bool, List, length, map, All, Option, Some, None, if◌then◌else◌}
 use Rattle.std.specs.List.{flat_map}
-use Rattle.gb_defs.specs.Slot.{Slot}
+use Rattle.gb_defs.specs.Slot.{Items, Slot, items_of}
 use Rattle.gb_defs.specs.ColumnType.{ColumnType}
 use Rattle.gb_defs.specs.Column.{ColumnValue, Content, content, fresh_column}
 use Rattle.gb_defs.specs.Fold.{Method, Min, Max, Sum, fold_of, fold_type, number_slot, sum_type}
@@ -19,6 +19,10 @@ fold_in method c rows = fold_of method c.dtype c.slots rows
 -- how many rows there are
 abbrev pub rows_fold : List ℕ → Slot
 rows_fold rows = number_slot (length rows)
+
+-- the rows as a list
+abbrev pub list_of_rows : List ℕ → Slot
+list_of_rows rows = Items (items_of (map number_slot rows))
 
 -- a column of what is made of each list of rows
 abbrev pub fold_column : List ℕ → ColumnType → (List ℕ → Slot) → List (List ℕ) → ColumnValue

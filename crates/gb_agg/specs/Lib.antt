@@ -1,6 +1,8 @@
+pub mod Distinct
 pub mod Extremes
 pub mod Folds
 pub mod GroupPart
+pub mod Lists
 pub mod Method
 pub mod Numbered
 pub mod Picks

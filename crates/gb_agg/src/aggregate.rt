@@ -3,7 +3,7 @@
 ghost use Rattle.std.specs.Prelude.{◌≡◌, IfErr, IfOk, MatchOption, None, OnOk, Some, false, length, option_map, true};
 ghost use Rattle.gb_defs.specs.ColumnType.{uint32};
 ghost use Rattle.gb_defs.specs.Fault.{InvalidOperation, has_least, has_sum};
-ghost use Rattle.gb_defs.specs.Fold.{Count, Sum, sum_type};
+ghost use Rattle.gb_defs.specs.Fold.{Count, Groups, Sum, sum_type};
 ghost use Rattle.gb_defs.specs.Groups.{HasRowNumbers, lists_in};
 ghost use Rattle.gb_base.specs.PlSmallStr.{IsNoMemory, name_of};
 ghost use Rattle.gb_base.specs.PolarsError.{Explains, operation_of};
@@ -12,11 +12,12 @@ ghost use Rattle.gb_series.specs.Series.{value_of};
 ghost use Rattle.gb_agg.specs.Extremes.{AreExtremes};
 ghost use Rattle.gb_agg.specs.Folds.{AreGroupsOf, extreme, fold_column, fold_in, folded, sums_of_column, unfit_of};
 ghost use Rattle.gb_agg.specs.GroupPart.{part_of};
-ghost use Rattle.gb_agg.specs.Method.{method_of};
+ghost use Rattle.gb_agg.specs.Method.{goes_by_parts, method_of};
 
 use crate::extremes::extreme_rows;
 use crate::group_part::GroupPart;
 use crate::group_sums::GroupSums;
+use crate::lists::{row_lists, slot_lists};
 use crate::method::GroupByMethod;
 use crate::number_fold::{RowCount, ValidCount, fold_groups};
 use crate::row_pick::{FirstRow, LastRow, RowPick, pick_groups, take_picks};
@@ -31,13 +32,14 @@ use gb_series::into_series::IntoSeries;
 use gb_series::series::Series;
 use std::alloc::Global;
 
-/// The aggregate over the rows of each group, under the column's name, unless the type of the column has none.
-/// A row's slot is read fast where the column has one chunk.
-pub fn aggregate(
+/// The aggregate over the rows of each group of a part, under the column's name, unless the type of the column
+/// has none. A row's slot is read fast where the column has one chunk.
+pub(crate) fn aggregate(
     column: &Series,
     method: GroupByMethod,
     groups: &GroupPart<'_>,
 ) -> PolarsResult<Series>
+    requires parts { goes_by_parts method ≡ true }
     requires groups { AreGroupsOf (value_of column.now) (part_of groups.now) }
     requires short { HasRowNumbers (length (value_of column.now).slots) }
     ensures fits { OnOk result (unfit_of (method_of method) (value_of column.now) ≡ None) }
@@ -52,9 +54,12 @@ pub fn aggregate(
         GroupByMethod::First => picked(column, &FirstRow::new(column), groups),
         GroupByMethod::Last => picked(column, &LastRow::new(column), groups),
         GroupByMethod::Sum => column_sums(column, groups),
+        GroupByMethod::Groups => column_rows(column, groups),
+        GroupByMethod::NUnique => unreachable!(),
         GroupByMethod::Count { include_nulls } => {
             Ok(column_counts(column, include_nulls, groups)?.into_series())
         }
+        GroupByMethod::Implode => slot_lists(column, groups),
     }
 }
 
@@ -205,6 +210,18 @@ fn column_sums(column: &Series, groups: &GroupPart<'_>) -> PolarsResult<Series>
         Some(sums) => Ok(sums),
         None => Err(unfit(column, Operation::Sum)),
     }
+}
+
+// The rows of each group as a list, under the column's name.
+fn column_rows(column: &Series, groups: &GroupPart<'_>) -> PolarsResult<Series>
+    requires groups { AreGroupsOf (value_of column.now) (part_of groups.now) }
+    requires short { HasRowNumbers (length (value_of column.now).slots) }
+    ensures ok { IfOk result (λ s. value_of s
+        ≡ folded Groups (value_of column.now) (lists_in (part_of groups.now))) }
+    ensures err { IfErr result IsNoMemory }
+{
+    let name = column.name().try_clone()?;
+    row_lists(column.allocator(), name, groups)
 }
 
 // The number of rows, or of valid slots, of each group.

@@ -1,17 +1,19 @@
 //! The aggregate over all groups, each worker some groups that follow each other.
 
-ghost use Rattle.std.specs.Prelude.{◌≡◌, ◌+◌, ◌<◌, ◌≤◌, ◌^◌, All, None, IfErr, IfOk, OnOk, length};
+ghost use Rattle.std.specs.Prelude.{◌≡◌, ◌+◌, ◌<◌, ◌≤◌, ◌^◌, All, None, IfErr, IfOk, OnOk, length, true};
 ghost use Rattle.gb_defs.specs.Column.{content};
-ghost use Rattle.gb_defs.specs.Groups.{HasRowNumbers};
+ghost use Rattle.gb_defs.specs.Fold.{NUnique};
+ghost use Rattle.gb_defs.specs.Groups.{HasRowNumbers, lists_in};
 ghost use Rattle.gb_base.specs.PlSmallStr.{IsNoMemory};
 ghost use Rattle.gb_base.specs.PolarsError.{Explains};
 ghost use Rattle.gb_groups.specs.GroupsType.{groups_of};
 ghost use Rattle.gb_series.specs.Series.{value_of};
-ghost use Rattle.gb_agg.specs.Folds.{AreGroupsOf, IsAggregateOf, joined_content, slots_of_parts, unfit_of};
+ghost use Rattle.gb_agg.specs.Folds.{AreGroupsOf, IsAggregateOf, folded, joined_content, slots_of_parts, unfit_of};
 ghost use Rattle.gb_agg.specs.GroupPart.{part_from};
-ghost use Rattle.gb_agg.specs.Method.{method_of};
+ghost use Rattle.gb_agg.specs.Method.{goes_by_parts, method_of};
 
 use crate::aggregate::aggregate;
+use crate::distinct::distinct_counts;
 use crate::group_part::GroupPart;
 use crate::method::GroupByMethod;
 use gb_base::error::PolarsResult;
@@ -19,6 +21,7 @@ use gb_base::pool::Pool;
 use gb_cols::series_trait::SeriesTrait;
 use gb_flat::shares::map_shares;
 use gb_groups::groups_type::GroupsType;
+use gb_series::into_series::IntoSeries;
 use gb_series::series::Series;
 use std::alloc::Global;
 use std::thread::Threads;
@@ -34,11 +37,12 @@ fn reads_chunks(method: GroupByMethod, chunks: usize, rows: usize, groups: usize
             groups.saturating_mul(chunks) <= rows.saturating_mul(8)
         }
         GroupByMethod::Count { include_nulls } => include_nulls,
-        GroupByMethod::Min | GroupByMethod::Max => false,
+        GroupByMethod::Groups | GroupByMethod::Implode => true,
+        GroupByMethod::Min | GroupByMethod::Max | GroupByMethod::NUnique => false,
     }
 }
 
-// `aggregate_all` of a column of one chunk.
+// `aggregate_by_parts` of a column of one chunk.
 fn aggregate_whole<R: Threads + Sync>(
     rt: &R,
     alloc: Global,
@@ -47,6 +51,7 @@ fn aggregate_whole<R: Threads + Sync>(
     groups: &GroupsType,
     pool: &Pool,
 ) -> PolarsResult<Series>
+    requires parts { goes_by_parts method ≡ true }
     requires groups { AreGroupsOf (value_of column.now) (groups_of groups.now) }
     requires short { HasRowNumbers (length (value_of column.now).slots) }
     ensures fits { OnOk result (unfit_of (method_of method) (value_of column.now) ≡ None) }
@@ -66,6 +71,7 @@ fn aggregate_whole<R: Threads + Sync>(
         requires { range.0 + range.1 ≤ length (groups_of groups.now).pairs
             × AreGroupsOf (value_of column.now) (groups_of groups.now)
             × HasRowNumbers (length (value_of column.now).slots)
+            × goes_by_parts method ≡ true
             × unfit_of (method_of method) (value_of column.now) ≡ None }
         ensures { IfOk result (IsAggregateOf method (value_of column.entry.now)
             (part_from (groups_of groups.entry.now) range.0 range.1))
@@ -75,9 +81,9 @@ fn aggregate_whole<R: Threads + Sync>(
     append_all(none, made)
 }
 
-/// `aggregate` over all groups, by as many workers as the pool has where there are many rows. With one worker
-/// no thread is started. The rows of a group stand in all chunks of a column, so where there are many groups
-/// several chunks are put into one before.
+/// The aggregate over the rows of each group, under the column's name, unless the type of the column has none; by
+/// as many workers as the pool has where there are many rows. With one worker no thread is started. The rows of
+/// a group stand in all chunks of a column, so where there are many groups several chunks are put into one before.
 pub fn aggregate_all<R: Threads + Sync>(
     rt: &R,
     alloc: Global,
@@ -86,6 +92,48 @@ pub fn aggregate_all<R: Threads + Sync>(
     groups: &GroupsType,
     pool: &Pool,
 ) -> PolarsResult<Series>
+    requires groups { AreGroupsOf (value_of column.now) (groups_of groups.now) }
+    requires short { HasRowNumbers (length (value_of column.now).slots) }
+    ensures fits { OnOk result (unfit_of (method_of method) (value_of column.now) ≡ None) }
+    ensures ok { IfOk result
+        (IsAggregateOf method (value_of column.now) (groups_of groups.now)) }
+    ensures err { IfErr result (λ e.
+        Explains e (unfit_of (method_of method) (value_of column.now))) }
+{
+    match method {
+        GroupByMethod::NUnique => all_distinct(rt, column, groups, pool),
+        _ => aggregate_by_parts(rt, alloc, column, method, groups, pool),
+    }
+}
+
+// How many slots of each group differ.
+fn all_distinct<R: Threads + Sync>(
+    rt: &R,
+    column: &Series,
+    groups: &GroupsType,
+    pool: &Pool,
+) -> PolarsResult<Series>
+    requires groups { AreGroupsOf (value_of column.now) (groups_of groups.now) }
+    requires short { HasRowNumbers (length (value_of column.now).slots) }
+    ensures ok { let c = value_of column.now in IfOk result (λ s.
+        value_of s ≡ folded NUnique c (lists_in (groups_of groups.now))) }
+    ensures err { IfErr result IsNoMemory }
+{
+    let whole = GroupPart::new(groups, 0, groups.len());
+    let counts = distinct_counts(rt, column, &whole, pool)?;
+    Ok(counts.into_series())
+}
+
+// `aggregate_all` by a method that goes by parts of the groups.
+fn aggregate_by_parts<R: Threads + Sync>(
+    rt: &R,
+    alloc: Global,
+    column: &Series,
+    method: GroupByMethod,
+    groups: &GroupsType,
+    pool: &Pool,
+) -> PolarsResult<Series>
+    requires parts { goes_by_parts method ≡ true }
     requires groups { AreGroupsOf (value_of column.now) (groups_of groups.now) }
     requires short { HasRowNumbers (length (value_of column.now).slots) }
     ensures fits { OnOk result (unfit_of (method_of method) (value_of column.now) ≡ None) }
@@ -110,6 +158,7 @@ fn aggregate_part(
     groups: &GroupsType,
     range: (usize, usize),
 ) -> PolarsResult<Series>
+    requires parts { goes_by_parts method ≡ true }
     requires inside { range.0 + range.1 ≤ length (groups_of groups.now).pairs }
     requires groups { AreGroupsOf (value_of column.now) (groups_of groups.now) }
     requires short { HasRowNumbers (length (value_of column.now).slots) }

@@ -3,11 +3,14 @@
 
 pub mod aggregate;
 pub mod by_workers;
+mod classes;
+mod distinct;
 mod extremes;
 pub mod fold_order;
 pub mod group_part;
 pub mod group_rows;
 mod group_sums;
+pub mod lists;
 pub mod method;
 pub mod number_fold;
 pub mod row_pick;

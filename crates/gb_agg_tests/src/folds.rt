@@ -6,11 +6,13 @@ ghost use Rattle.gb_groups.specs.GroupsType.{groups_of};
 
 use gb_agg::group_rows::RowList;
 use gb_agg::number_fold::{NumberFold, RowCount, SumOf, ValidCount, fold_group};
+use gb_agg::slot_fold::{SumFold, fold_numbered};
 use gb_base::small_str::PlSmallStr;
 use gb_cols::primitive::Int64Chunked;
 use gb_flat_series::series::FlatSeries;
 use gb_groups::groups_slice::GroupsSlice;
 use gb_groups::groups_type::GroupsType;
+use gb_groups::row_lists::AllRows;
 use gb_numbers::numeric::PolarsNumericType;
 use gb_series::series::Series;
 use std::alloc::Global;
@@ -68,6 +70,15 @@ fn rows_are_folded(rt: HostRuntime) -> Result<(), Fail> {
         Some(1)
     );
     assert_eq!(rt; ValidCount::new(&column).over(&RowList::new(&[])), None);
+    Ok(())
+}
+
+#[test]
+fn rows_are_folded_by_number(rt: HostRuntime) -> Result<(), Fail> {
+    let column = two_slots(rt.alloc())?;
+    let rows = AllRows::new(2);
+    let sums = fold_numbered(rt.alloc(), &column, &SumFold, &rows, &[1, 1], 2)?;
+    assert!(rt; sums.as_slice() == [0, 7].as_slice());
     Ok(())
 }
 

@@ -6,11 +6,11 @@ ghost use Rattle.gb_groups.specs.GroupsType.{groups_of};
 ghost use Rattle.gb_series.specs.Series.{value_of};
 ghost use Rattle.gb_agg.specs.Folds.{AreGroupsOf};
 
-use gb_agg::aggregate::aggregate;
-use gb_agg::group_part::GroupPart;
+use gb_agg::by_workers::aggregate_all;
 use gb_agg::method::GroupByMethod;
 use gb_base::data_type::CategoricalOrdering;
 use gb_base::error::{PolarsError, PolarsResult};
+use gb_base::pool::Pool;
 use gb_base::small_str::PlSmallStr;
 use gb_cols::boolean::BooleanChunked;
 use gb_cols::chunked::StringChunked;
@@ -24,6 +24,7 @@ use gb_series::into_series::IntoSeries;
 use gb_series::series::Series;
 use std::alloc::Global;
 use std::test::Fail;
+use std::thread::Threads;
 
 // All four rows, the second, the last two, and none.
 fn four_runs(alloc: Global) -> PolarsResult<GroupsType>
@@ -76,7 +77,12 @@ fn categories(alloc: Global, ordering: CategoricalOrdering) -> PolarsResult<Seri
 }
 
 // Whether the cells of the aggregate over the four runs, each with a slash behind it, are this text.
-fn makes(column: PolarsResult<Series>, method: GroupByMethod, text: &str) -> PolarsResult<bool> {
+fn makes<R: Threads + Sync>(
+    rt: &R,
+    column: PolarsResult<Series>,
+    method: GroupByMethod,
+    text: &str,
+) -> PolarsResult<bool> {
     let column = column?;
     if column.len() != 4 {
         return Ok(false);
@@ -85,8 +91,10 @@ fn makes(column: PolarsResult<Series>, method: GroupByMethod, text: &str) -> Pol
     if groups.len() != 4 {
         return Ok(false);
     }
-    let folded = aggregate(&column, method, &GroupPart::new(&groups, 0, 4))?;
-    let mut cells = Vec::new(column.allocator());
+    let alloc = column.allocator();
+    let pool = Pool::new(2, 2, 1, 1, 0);
+    let folded = aggregate_all(rt, alloc, &column, method, &groups, &pool)?;
+    let mut cells = Vec::new(alloc);
     for row in 0..folded.len() {
         put_cell(&folded, row, &mut cells)?;
     }
@@ -113,22 +121,23 @@ const VALID: GroupByMethod = GroupByMethod::Count {
 #[test]
 fn numbers_are_aggregated(rt: HostRuntime) -> Result<(), Fail> {
     let alloc = rt.alloc();
-    assert!(rt; makes(numbers(alloc), GroupByMethod::Min, "-1/-/-1/-/")?);
-    assert!(rt; makes(numbers(alloc), GroupByMethod::Max, "5/-/5/-/")?);
-    assert!(rt; makes(numbers(alloc), GroupByMethod::First, "3/-/-1/-/")?);
-    assert!(rt; makes(numbers(alloc), GroupByMethod::Last, "5/-/5/-/")?);
-    assert!(rt; makes(numbers(alloc), GroupByMethod::Sum, "7/0/4/0/")?);
-    assert!(rt; makes(numbers(alloc), COUNT, "4/1/2/0/")?);
-    assert!(rt; makes(numbers(alloc), VALID, "3/0/2/-/")?);
+    assert!(rt; makes(&rt, numbers(alloc), GroupByMethod::Min, "-1/-/-1/-/")?);
+    assert!(rt; makes(&rt, numbers(alloc), GroupByMethod::Max, "5/-/5/-/")?);
+    assert!(rt; makes(&rt, numbers(alloc), GroupByMethod::First, "3/-/-1/-/")?);
+    assert!(rt; makes(&rt, numbers(alloc), GroupByMethod::Last, "5/-/5/-/")?);
+    assert!(rt; makes(&rt, numbers(alloc), GroupByMethod::Sum, "7/0/4/0/")?);
+    assert!(rt; makes(&rt, numbers(alloc), COUNT, "4/1/2/0/")?);
+    assert!(rt; makes(&rt, numbers(alloc), VALID, "3/0/2/-/")?);
+    assert!(rt; makes(&rt, numbers(alloc), GroupByMethod::NUnique, "4/1/2/0/")?);
     Ok(())
 }
 
 #[test]
 fn flags_are_aggregated(rt: HostRuntime) -> Result<(), Fail> {
     let alloc = rt.alloc();
-    assert!(rt; makes(flags(alloc), GroupByMethod::Min, "false/-/false/-/")?);
-    assert!(rt; makes(flags(alloc), GroupByMethod::Max, "true/-/true/-/")?);
-    assert!(rt; makes(flags(alloc), GroupByMethod::Sum, "2/0/1/0/")?);
+    assert!(rt; makes(&rt, flags(alloc), GroupByMethod::Min, "false/-/false/-/")?);
+    assert!(rt; makes(&rt, flags(alloc), GroupByMethod::Max, "true/-/true/-/")?);
+    assert!(rt; makes(&rt, flags(alloc), GroupByMethod::Sum, "2/0/1/0/")?);
     Ok(())
 }
 
@@ -137,17 +146,46 @@ fn categories_are_aggregated(rt: HostRuntime) -> Result<(), Fail> {
     let alloc = rt.alloc();
     let by_code = CategoricalOrdering::Physical;
     let by_text = CategoricalOrdering::Lexical;
-    assert!(rt; makes(categories(alloc, by_code), GroupByMethod::Min, "y/-/x/-/")?);
-    assert!(rt; makes(categories(alloc, by_code), GroupByMethod::Max, "yy/-/yy/-/")?);
-    assert!(rt; makes(categories(alloc, by_text), GroupByMethod::Min, "x/-/x/-/")?);
-    assert!(rt; makes(categories(alloc, by_text), GroupByMethod::Max, "yy/-/yy/-/")?);
+    assert!(rt; makes(&rt, categories(alloc, by_code), GroupByMethod::Min, "y/-/x/-/")?);
+    assert!(rt; makes(&rt, categories(alloc, by_code), GroupByMethod::Max, "yy/-/yy/-/")?);
+    assert!(rt; makes(&rt, categories(alloc, by_text), GroupByMethod::Min, "x/-/x/-/")?);
+    assert!(rt; makes(&rt, categories(alloc, by_text), GroupByMethod::Max, "yy/-/yy/-/")?);
     assert!(rt;
         makes(
+            &rt,
             categories(alloc, by_text),
             GroupByMethod::Last,
             "yy/-/yy/-/"
         )?
     );
+    Ok(())
+}
+
+#[test]
+fn lists_are_made(rt: HostRuntime) -> Result<(), Fail> {
+    let alloc = rt.alloc();
+    let rows = "[0,1,2,3]/[1]/[2,3]/[]/";
+    assert!(rt; makes(&rt, numbers(alloc), GroupByMethod::Groups, rows)?);
+    let slots = "[3,null,-1,5]/[null]/[-1,5]/[]/";
+    assert!(rt; makes(&rt, numbers(alloc), GroupByMethod::Implode, slots)?);
+    let slots = "[\"y\",null,\"x\",\"yy\"]/[null]/[\"x\",\"yy\"]/[]/";
+    assert!(rt; makes(&rt, texts(alloc), GroupByMethod::Implode, slots)?);
+    Ok(())
+}
+
+// Whether these are the counts of a column whose first and last slots are alike, and whose others are.
+fn counts_alike<R: Threads + Sync>(rt: &R, alloc: Global, text: &str) -> PolarsResult<bool> {
+    let mut column = Int64Chunked::new(alloc, named(alloc)?);
+    column.push(None)?;
+    column.push(Some(7))?;
+    column.push(Some(7))?;
+    column.push(None)?;
+    makes(rt, Ok(column.into_series()), GroupByMethod::NUnique, text)
+}
+
+#[test]
+fn slots_that_are_alike_count_once(rt: HostRuntime) -> Result<(), Fail> {
+    assert!(rt; counts_alike(&rt, rt.alloc(), "2/1/2/0/")?);
     Ok(())
 }
 
@@ -170,11 +208,12 @@ fn is_refused(made: PolarsResult<bool>) -> bool {
 #[test]
 fn texts_and_nulls_are_aggregated(rt: HostRuntime) -> Result<(), Fail> {
     let alloc = rt.alloc();
-    assert!(rt; makes(texts(alloc), GroupByMethod::Min, "x/-/x/-/")?);
-    assert!(rt; makes(texts(alloc), GroupByMethod::Max, "yy/-/yy/-/")?);
-    assert!(rt; makes(nulls(alloc), GroupByMethod::First, "-/-/-/-/")?);
-    assert!(rt; makes(nulls(alloc), VALID, "0/0/0/-/")?);
-    assert!(rt; is_refused(makes(texts(alloc), GroupByMethod::Sum, "")));
-    assert!(rt; is_refused(makes(nulls(alloc), GroupByMethod::Max, "")));
+    assert!(rt; makes(&rt, texts(alloc), GroupByMethod::Min, "x/-/x/-/")?);
+    assert!(rt; makes(&rt, texts(alloc), GroupByMethod::Max, "yy/-/yy/-/")?);
+    assert!(rt; makes(&rt, nulls(alloc), GroupByMethod::First, "-/-/-/-/")?);
+    assert!(rt; makes(&rt, nulls(alloc), VALID, "0/0/0/-/")?);
+    assert!(rt; makes(&rt, nulls(alloc), GroupByMethod::NUnique, "1/1/1/0/")?);
+    assert!(rt; is_refused(makes(&rt, texts(alloc), GroupByMethod::Sum, "")));
+    assert!(rt; is_refused(makes(&rt, nulls(alloc), GroupByMethod::Max, "")));
     Ok(())
 }

@@ -3,10 +3,7 @@ use Rattle.std.proofs.Common.{◌≡◌, ◌<◌, ◌≤◌, ◌⊎◌, ℕ, Boo
 use Rattle.gb_defs.specs.Fault as fault
 use Rattle.gb_defs.specs.Request as asked
 use Rattle.gb_defs.specs.Outcome.{Outcome, BadTable, BadGroup, Report}
-use Rattle.gb_base.specs.PlSmallStr.{name_of}
-use Rattle.gb_base.specs.declared.small_str.PlSmallStr.{PlSmallStr}
 use Rattle.gb_base.specs.declared.error.PolarsError.{PolarsError}
-use Rattle.gb_base.specs.declared.error.PolarsError.TheVariants.{ColumnNotFound, ComputeError}
 use Rattle.gb_text.specs.declared.status.Status.{Status}
 use Rattle.gb_text.specs.declared.status.Status.TheVariants.{Done, Usage, Table, Group, ReadFault, WriteFault, TooLong, NoMemory}
 use Rattle.gb_base.specs.Device.{Rose}
@@ -15,7 +12,7 @@ use Rattle.gb_text.specs.StatusLine.{IsToldAs, status_line}
 use Rattle.gb_defs.specs.Notes.{IsTraceLine, IsTracedIn, asks_trace}
 use Rattle.gb_run.specs.Run.{AreNotes, Comes, HasCause, HasNoAnswer, HasTraceLine, IsAnswer, IsAnswerTo, IsOneOf, IsRefusedText, Run, Task}
 use Rattle.gb_defs.specs.Outcome.{outcome}
-use Rattle.gb_text.specs.Status.{fault_value}
+use Rattle.gb_text.specs.Status.{Tells, fault_value}
 use Rattle.gb_text.specs.Stream.{HasReadAll}
 use Rattle.gb_text.proofs.RecordLemmas.{some_of}
 
@@ -38,19 +35,9 @@ module _ (run : Run) (q : asked.Request) (bytes : List ℕ) (e : run.task.reques
   long_input TooLong h = inl refl
   long_input NoMemory h = inr (inr (inl refl))
 
-module _ (run : Run) (s : Status) (cause : HasCause run s) where
-  pub missing_named : (name : PlSmallStr) → s ≡ Group (ColumnNotFound name) → Comes run.task (BadGroup (fault.ColumnNotFound (name_of name)))
-  missing_named name e =
-      let h : HasCause run (Group (ColumnNotFound name)) = subst (HasCause run) e cause in
-      subst (λ f. Comes run.task (BadGroup f)) h.1 h.2
-
-  pub errors_told : (e : PolarsError) → s ≡ Group e → (e ≡ ComputeError) ⊎ ((name : PlSmallStr) × (e ≡ ColumnNotFound name))
-  errors_told e is = told e (subst (HasCause run) is cause)
-    where
-      told : (e : PolarsError) → HasCause run (Group e) → (e ≡ ComputeError) ⊎ ((name : PlSmallStr) × (e ≡ ColumnNotFound name))
-      told ComputeError h = inl refl
-      told (ColumnNotFound name) h = inr (name, refl)
-      told _ h = absurd h.1
+-- an error of the grouping tells the fault that the task comes to
+pub group_told : (run : Run) (s : Status) → HasCause run s → (e : PolarsError) → s ≡ Group e → (f : fault.Fault) × Tells e f × Comes run.task (BadGroup f)
+group_told run s cause e is = subst (HasCause run) is cause
 
 -- ---- what a report says of the source
 

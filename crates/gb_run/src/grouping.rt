@@ -18,12 +18,14 @@ ghost use Rattle.gb_rows.specs.Lent.{keys_in};
 ghost use Rattle.gb_rows.specs.Rows.{AreOfOneLength};
 ghost use Rattle.gb_series.specs.Series.{value_of};
 ghost use Rattle.gb_run.specs.Grouping.{HasRows, aggregates_over, answer_parts, firsts_in};
-ghost use Rattle.gb_run.specs.Grouping.{grouping_fault, unfit_cause};
+ghost use Rattle.gb_run.specs.Grouping.{HasColumn, grouping_fault, missing_cause, unfit_cause};
 ghost use Rattle.gb_run.specs.Request.{agg_of, aggs_of, names_of};
 ghost use Rattle.gb_text.specs.Text.{contents_of};
 
 use crate::words::Agg;
 use gb_agg::by_workers::aggregate_all;
+use gb_agg::group_part::GroupPart;
+use gb_agg::lists::row_lists;
 use gb_agg::method::fmt_group_by_column;
 use gb_base::device::Gate;
 use gb_base::error::{PolarsError, PolarsResult};
@@ -151,8 +153,20 @@ fn check_columns(frame: &DataFrame, aggs: &[Agg]) -> PolarsResult<()>
     ensures err { IfErr result (λ e. Explains e (missing_fault frame.now (aggs_of aggs.now))) }
 {
     for agg in aggs {
-        frame.column(agg.column.as_str())?;
+        check_column(frame, agg)?;
     }
+    Ok(())
+}
+
+// That the frame has the column of an aggregate that needs one.
+fn check_column(frame: &DataFrame, agg: &Agg) -> PolarsResult<()>
+    ensures ok { OnOk result (missing_cause frame.now agg.now ≡ None) }
+    ensures err { IfErr result (λ e. Explains e (missing_cause frame.now agg.now)) }
+{
+    if !agg.method.needs_column() {
+        return Ok(());
+    }
+    frame.column(agg.column.as_str())?;
     Ok(())
 }
 
@@ -220,9 +234,35 @@ fn aggregates<R: Threads + Sync>(
 {
     let mut columns = Vec::with_capacity(alloc, aggs.len())?;
     for agg in aggs {
-        columns.push(found_aggregate(rt, alloc, frame, agg, groups, pool)?)?;
+        columns.push(agg_column(rt, alloc, frame, agg, groups, pool)?)?;
     }
     Ok(columns)
+}
+
+// An aggregate over the rows of each group.
+fn agg_column<R: Threads + Sync>(
+    rt: &R,
+    alloc: Global,
+    frame: &DataFrame,
+    agg: &Agg,
+    groups: &GroupsType,
+    pool: &Pool,
+) -> PolarsResult<Series>
+    requires frame { IsFrame frame.now }
+    requires short { HasRowNumbers (frame_height frame.now) }
+    requires found { HasColumn frame.now agg.now }
+    requires rows { All (AreMembers (frame_height frame.now)) (lists_in (groups_of groups.now)) }
+    requires few { HasRowNumbers (length (groups_of groups.now).pairs) }
+    ensures ok { IfOk result (λ s. content (value_of s) ≡ aggregated (agg_of agg.now)
+        (find_column frame.now (name_of agg.now.column)) (lists_in (groups_of groups.now))) }
+    ensures fits { OnOk result (unfit_cause frame.now agg.now ≡ None) }
+    ensures err { IfErr result (λ e. Explains e (unfit_cause frame.now agg.now)) }
+{
+    if agg.method.needs_column() {
+        return found_aggregate(rt, alloc, frame, agg, groups, pool);
+    }
+    let name = fmt_group_by_column(alloc, agg.column.as_str(), agg.method)?;
+    row_lists(alloc, name, &GroupPart::new(groups, 0, groups.len()))
 }
 
 // The aggregate of a column that the frame has.

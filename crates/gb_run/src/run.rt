@@ -5,17 +5,14 @@ ghost use Rattle.gb_defs.specs.Fault as fault;
 ghost use Rattle.gb_defs.specs.Outcome.{BadGroup, BadTable, Report};
 ghost use Rattle.gb_defs.specs.Table as table;
 ghost use Rattle.gb_base.specs.Device.{Rose};
-ghost use Rattle.gb_base.specs.PlSmallStr.{name_of};
-ghost use Rattle.gb_base.specs.declared.small_str.PlSmallStr.{PlSmallStr};
 ghost use Rattle.gb_base.specs.declared.error.PolarsError.{PolarsError};
-ghost use Rattle.gb_base.specs.declared.error.PolarsError.TheVariants.{ColumnNotFound, ComputeError};
 ghost use Rattle.std.specs.String.{string_bytes};
 ghost use Rattle.gb_run.specs.Run.{AreNotes, Comes, HasCause, HasNoAnswer, IsAnswer, IsOneOf};
 ghost use Rattle.gb_text.specs.Moved.{HasTaken, Holds, HoldsPart};
 ghost use Rattle.gb_run.specs.Run.{IsTable, IsTooLong, OfOutcome, Run, WhereTold, Writes};
 ghost use Rattle.gb_text.specs.Moved.{IsReadToEnd};
 ghost use Rattle.gb_run.specs.Run.{asked_by, has_ended, task_of};
-ghost use Rattle.gb_text.specs.Status.{IsTold, fault_value};
+ghost use Rattle.gb_text.specs.Status.{IsTold, Tells, fault_value};
 ghost use Rattle.gb_text.specs.declared.status.TableFault.{TableFault};
 ghost use Rattle.gb_text.specs.declared.status.Status.TheVariants as status;
 
@@ -139,15 +136,10 @@ pub fn run<R: Threads + Sync, S: Source, W: Sink, E: Sink, G: Gate + Sync>(
         (λ o. (f : table.TableFault) → o ≡ BadTable f
         → IsTable f result ⊎ IsOneOf (status.ReadFault ∷ status.NoMemory ∷ []) result) }
 
-    // The grouping is at fault: a column is missing, or there is another fault.
-    ensures column_not_found { (name : PlSmallStr) → result ≡ status.Group (ColumnNotFound name)
-        → Comes (task_of words.now (S.left source.old) limits.input_bytes)
-        (BadGroup (fault.ColumnNotFound (name_of name))) }
-    ensures group { result ≡ status.Group ComputeError
-        → (f : fault.Fault) × ((name : List ℕ) → f ≢ fault.ColumnNotFound name)
+    // The grouping is at fault.
+    ensures group { (e : PolarsError) → result ≡ status.Group e
+        → (f : fault.Fault) × Tells e f
         × Comes (task_of words.now (S.left source.old) limits.input_bytes) (BadGroup f) }
-    ensures group_errors { (e : PolarsError) → result ≡ status.Group e
-        → (e ≡ ComputeError) ⊎ ((name : PlSmallStr) × (e ≡ ColumnNotFound name)) }
     ensures bad_group { OfOutcome (task_of words.now (S.left source.old) limits.input_bytes)
         (λ o. (f : fault.Fault) → o ≡ BadGroup f
         → IsTold f result ⊎ IsOneOf (status.ReadFault ∷ status.NoMemory ∷ []) result) }

@@ -139,7 +139,7 @@ fn new_agg(alloc: Global, column: &str, method: GroupByMethod) -> PolarsResult<A
     })
 }
 
-// The method that a word names.
+// The method that a word names which stands before a column's name.
 #[tactic(auto, unfolding(gb_defs::specs::Request::method_named))]
 fn method_named(word: &str) -> Option<GroupByMethod>
     ensures { option_map method_of result ≡ asked.method_named word.now }
@@ -150,21 +150,26 @@ fn method_named(word: &str) -> Option<GroupByMethod>
         "max" => Some(GroupByMethod::Max),
         "first" => Some(GroupByMethod::First),
         "last" => Some(GroupByMethod::Last),
+        "n_unique" => Some(GroupByMethod::NUnique),
         "count" => Some(GroupByMethod::Count {
             include_nulls: true,
         }),
         "valid" => Some(GroupByMethod::Count {
             include_nulls: false,
         }),
+        "list" => Some(GroupByMethod::Implode),
         _ => None,
     }
 }
 
-// The column and the method that METHOD:NAME names.
+// The column and the method that METHOD:NAME names. The row lists are asked without a column, which is then empty.
 #[tactic(auto, unfolding(gb_defs::specs::Request::agg_of))]
 fn cut_agg(word: &str) -> Option<(&str, GroupByMethod)>
     ensures { option_map (λ cut. (cut.0.now, method_of cut.1)) result ≡ asked.agg_of word.now }
 {
+    if word == "groups" {
+        return Some(("", GroupByMethod::Groups));
+    }
     let (method, column) = word.split_once(':')?;
     Some((column, method_named(method)?))
 }

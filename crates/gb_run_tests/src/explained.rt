@@ -194,6 +194,25 @@ fn keys_in_each_order(rt: HostRuntime) -> Result<(), Fail> {
     Ok(())
 }
 
+const LISTED: [Explained; 1] = [Explained {
+    input: "k:i32\n1\n1\n1\n2\n2\n",
+    wrote: "k:i32,groups:list[u32]\n1,\"[0,1,2]\"\n2,\"[3,4]\"\n",
+    told: "path sorted, groups 2, keys read 0\n",
+}];
+
+#[test]
+fn rows_of_a_sorted_key(rt: HostRuntime) -> Result<(), Fail> {
+    let alloc = rt.alloc();
+    for (workers, partitions) in [("2", "1"), ("2", "1024"), ("64", "1"), ("64", "1024")] {
+        let words = format!(in alloc; "group --by k --agg groups --explain --workers {workers}")?;
+        let words = format!(in alloc; "{words} --partitions {partitions}")?;
+        for case in &LISTED {
+            assert!(rt; answers(&rt, alloc, words.as_str(), case, case.told)?);
+        }
+    }
+    Ok(())
+}
+
 /// Words, an input, and how the run is to end and what it tells.
 struct Refused {
     words: &'static str,
@@ -205,7 +224,7 @@ struct Refused {
 const LONG: &str =
     "k\n0123456789012345678901234567890123456789012345678901234567890123456789012345678901234567890123456789012345678901234567890123456789012345678901234567890123456789012345678901234567890123456789012345678901234567890123456789\n";
 
-const REFUSALS: [Refused; 9] = [
+const REFUSALS: [Refused; 10] = [
     Refused {
         words: "regroup",
         input: "k\n",
@@ -252,7 +271,13 @@ const REFUSALS: [Refused; 9] = [
         words: ASKED,
         input: "k,v\na,1\n",
         code: 4,
-        told: "error: compute\n",
+        told: "error: invalid operation: sum of v\n",
+    },
+    Refused {
+        words: "group --by k --agg count:v --agg valid:v",
+        input: "k,v\na,1\n",
+        code: 4,
+        told: "error: duplicate column: v_count\n",
     },
     Refused {
         words: ASKED,

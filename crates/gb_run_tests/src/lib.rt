@@ -6,6 +6,8 @@ mod explained;
 #[cfg(test)]
 mod many_rows;
 #[cfg(test)]
+mod methods;
+#[cfg(test)]
 mod nested_text;
 #[cfg(test)]
 mod several_keys;

@@ -1,18 +1,19 @@
 -- The column of lists: what each call comes to.
 use Rattle.std.proofs.Common.{◌≡◌, ℕ, zero, suc, ◌+◌, ◌-◌, ◌<◌, ◌≤◌, ℤ, pos, negsuc, ◌+ℤ◌, max, min, Bool, true, false, List, [], ◌∷◌, ◌++◌, length, map, take, drop, get_or, replicate, refl, sym, ◌∙◌, ap, arith, subst}
 use Rattle.std.specs.List.{All, AllByRecursion, flat_map, sum}
-use Rattle.std.proofs.lemmas.List.{length-append, length-drop, length-map, length-take}
+use Rattle.std.proofs.lemmas.List.{length-append, length-drop, length-map, length-replicate, length-take}
 use Rattle.std.proofs.lemmas.List.Elements.{All-from_recursion, recursion_from_All}
 use Rattle.gb_defs.specs.Slot.{Slot, Nil, Items, is_nil, items_of, slot_at}
 use Rattle.gb_defs.specs.Slices.{between, moved_into, shown, slice_end, slice_from, slice_start}
 use Rattle.gb_defs.specs.ColumnType.{ColumnType, Fits, FitsParts, ListOf, part_type}
 use Rattle.gb_defs.specs.Column.{ColumnValue, rechunked, repeated, sliced, taken}
 use Rattle.gb_cols.specs.Column.{appended, first_chunks, pushed}
+use Rattle.gb_cols.specs.Null.{null_column}
 use Rattle.gb_values.specs.Array.{Rises, start_of}
 use Rattle.gb_series.specs.Structs.{KeepsRows}
-use Rattle.gb_series.specs.Rows.{AreItems, AreRowsOf, IsListed, end_of, list_column, pieces_to, places_at, row_slot, rows_of}
+use Rattle.gb_series.specs.Rows.{AreItems, AreRowsOf, IsListed, end_of, list_column, list_slot, lists_of, pieces_to, places_at, row_slot, rows_of}
 use Rattle.gb_series.proofs.PieceLemmas.{piece_at, piece_high, piece_low, part_back, part_high, part_is, part_low, pieces_both, pieces_join, pieces_front, pieces_length, pieces_mapped, pieces_take, places_below, read_pieces, rises_both, rises_end, rises_join, rises_take, whole_piece}
-use Rattle.gb_series.proofs.RowLemmas.{row_at, rows_append, rows_between, rows_length, rows_take, rows_taken}
+use Rattle.gb_series.proofs.RowLemmas.{row_at, rows_append, rows_between, rows_length, rows_take, rows_taken, take_nil}
 
 -- the type of the items
 pub item_type : (t u : ColumnType) → ListOf t ≡ ListOf u → t ≡ u
@@ -513,3 +514,38 @@ map_replicate f (suc n) x = ap (λ ys. f x ∷ ys) (map_replicate f n x)
 pub taken_repeated : (row n : ℕ) (c : ColumnValue) → taken (replicate n row) c ≡ repeated row n c
 taken_repeated row n c =
     ap (λ ss. record (taken (replicate n row) c) { slots = ss; chunks = length ss ∷ [] }) (map_replicate (slot_at c.slots) n row)
+
+-- ---- rows of which none is null
+
+rows_present : (pieces : List (List Slot)) → rows_of (replicate (length pieces) true) pieces ≡ map list_slot pieces
+rows_present [] = refl
+rows_present (piece ∷ pieces) = ap (λ ss. list_slot piece ∷ ss) (rows_present pieces)
+
+-- flags of which there were none, filled up
+pub all_present : (count n long : ℕ) (before now : List Bool) → before ≡ [] → long ≡ 0 → count ≡ n → now ≡ take count before ++ replicate (count - long) true → now ≡ replicate n true
+all_present count n long before now none empty is e =
+    let whole : count - long ≡ n = omega (arith, empty, is) in
+    e ∙ ap (λ bs. take count bs ++ replicate (count - long) true) none ∙ ap (λ bs. bs ++ replicate (count - long) true) (take_nil {A = Bool} count) ∙ ap (λ k. replicate k true) whole
+
+module _ (name : List ℕ) (ends : List ℕ) (items : ColumnValue) (rises : Rises 0 ends (length items.slots)) (rows : ColumnValue) (present : List Bool)
+    (flags : present ≡ replicate (length ends) true) (counted : rows ≡ null_column name (length ends ∷ [])) where
+  present_each : length present ≡ length ends
+  present_each = ap length flags ∙ length-replicate (length ends) true
+
+  pub from_listed : IsListed rows present ends items
+  from_listed = record {
+    flags = omega (arith, present_each, ap (λ r. length r.slots) counted, length-replicate (sum (length ends ∷ [])) Nil);
+    ends_each = sym present_each;
+    rises = subst (λ (last : ℕ). Rises 0 ends last) (sym (rises_end 0 ends (length items.slots) rises)) rises;
+    within = omega (arith, rises_end 0 ends (length items.slots) rises);
+  }
+
+  pub from_view : list_column rows present ends items ≡ lists_of name ends items
+  from_view =
+      let pieces = pieces_to 0 ends items.slots in
+      let each : length pieces ≡ length ends = pieces_length 0 ends items.slots in
+      let slots : rows_of present pieces ≡ map list_slot pieces = ap (λ ps. rows_of ps pieces) (flags ∙ ap (λ n. replicate n true) (sym each)) ∙ rows_present pieces in
+      let count : length ends ≡ length (map list_slot pieces) = sym each ∙ sym (length-map pieces list_slot) in
+      ap (λ r. list_column r present ends items) counted
+      ∙ ap (λ ss. record (lists_of name ends items) { slots = ss; chunks = length ends ∷ [] }) slots
+      ∙ ap (λ n. record (lists_of name ends items) { chunks = n ∷ [] }) count

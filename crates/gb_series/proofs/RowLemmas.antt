@@ -46,7 +46,7 @@ rows_append [] qs (x ∷ xs) ys e = absurd (omega (arith, e))
 rows_append (p ∷ ps) qs [] ys e = absurd (omega (arith, e))
 rows_append (p ∷ ps) qs (x ∷ xs) ys e = ap (λ ss. row_slot p x ∷ ss) (rows_append ps qs xs ys (omega (arith, e)))
 
-take_nil : {A : Type 0} (n : ℕ) → take {A = A} n [] ≡ []
+pub take_nil : {A : Type 0} (n : ℕ) → take {A = A} n [] ≡ []
 take_nil zero = refl
 take_nil (suc n) = refl
 

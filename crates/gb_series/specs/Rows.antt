@@ -4,7 +4,7 @@ use Rattle.std.specs.List.{flat_map, range_with_len}
 use Rattle.gb_defs.specs.Slot.{Slot, Nil, Items, is_nil, items_of, slot_at}
 use Rattle.gb_defs.specs.Slices.{between}
 use Rattle.gb_defs.specs.ColumnType.{ListOf}
-use Rattle.gb_defs.specs.Column.{ColumnValue, NotSorted}
+use Rattle.gb_defs.specs.Column.{ColumnValue, NotSorted, fresh_column}
 use Rattle.gb_values.specs.Array.{Rises, start_of}
 
 -- a row is null, or holds these slots
@@ -49,6 +49,14 @@ pub record IsLastPresent (present : List Bool) (row : ℕ) : Type 0 where
 abbrev pub list_column : ColumnValue → List Bool → List ℕ → ColumnValue → ColumnValue
 list_column rows present ends inner =
     record { name = rows.name; dtype = ListOf inner.dtype; slots = rows_of present (pieces_to 0 ends inner.slots); chunks = rows.chunks; sorted = NotSorted; all_used = false }
+
+-- a list of these slots
+abbrev pub list_slot : List Slot → Slot
+list_slot piece = Items (items_of piece)
+
+-- a column of the pieces of another that end at these places, one a row
+abbrev pub lists_of : List ℕ → List ℕ → ColumnValue → ColumnValue
+lists_of name ends inner = fresh_column name (ListOf inner.dtype) (map list_slot (pieces_to 0 ends inner.slots))
 
 -- where the items of the last row end
 abbrev pub end_of : List ℕ → ℕ

@@ -1,11 +1,9 @@
 -- The exit status, and the status that an error comes to.
-use Rattle.std.specs.Prelude.{◌≡◌, ◌≢◌, ℕ, List, Option, Some, None}
+use Rattle.std.specs.Prelude.{◌≡◌, ℕ, Option, Some, None}
 use Rattle.gb_defs.specs.Fault as fault
 use Rattle.gb_defs.specs.Table as table
 use Rattle.gb_base.specs.PolarsError.{cause_of}
-use Rattle.gb_base.specs.PlSmallStr.{name_of}
 use Rattle.gb_base.specs.declared.error.PolarsError.{PolarsError}
-use Rattle.gb_base.specs.declared.error.PolarsError.TheVariants as polars
 use Rattle.gb_text.specs.declared.status.TableFault.{TableFault}
 use Rattle.gb_text.specs.declared.status.TableFault.TheVariants.{NoHeader, SameName, Ragged, BadCell}
 use Rattle.gb_text.specs.declared.status.TableError.{TableError}
@@ -35,11 +33,9 @@ abbrev pub of_table : TableError → Status
 of_table (error.Fault fault) = Table fault
 of_table error.NoMemory = NoMemory
 
--- the error tells this fault: a missing column by its name, any other fault as ComputeError
+-- the error tells this fault
 abbrev pub Tells : PolarsError → fault.Fault → Type 0
-Tells (polars.ColumnNotFound name) f = f ≡ fault.ColumnNotFound (name_of name)
-Tells polars.ComputeError f = (name : List ℕ) → f ≢ fault.ColumnNotFound name
-Tells _ f = ⊥
+Tells e f = cause_of e ≡ Some f
 
 -- the status of a grouping with this fault
 abbrev pub IsTold : fault.Fault → Status → Type 0

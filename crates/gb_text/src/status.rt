@@ -106,7 +106,6 @@ impl From<TableError> for Status {
     }
 }
 
-/// A missing column is told by its name; which other fault it was is not told today.
 impl From<PolarsError> for Status {
     ghost use Rattle.gb_text.specs.Status.{IsStatusOf};
 
@@ -115,8 +114,7 @@ impl From<PolarsError> for Status {
     fn from(e: PolarsError) -> Status {
         match e {
             PolarsError::NoMemory => Status::NoMemory,
-            PolarsError::ColumnNotFound(name) => Status::Group(PolarsError::ColumnNotFound(name)),
-            _ => Status::Group(PolarsError::ComputeError),
+            e => Status::Group(e),
         }
     }
 }

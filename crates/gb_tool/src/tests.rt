@@ -3,7 +3,6 @@
 ghost use Rattle.std.specs.Prelude.{◌≤◌};
 
 use gb_base::device::{Failed, Gate, Source};
-use gb_base::error::PolarsError;
 use gb_base::memory::{FreeGate, MemSink, SoundSource};
 use gb_run::run::{Limits, run};
 use gb_text::status::{Status, TableError, TableFault};
@@ -92,7 +91,7 @@ struct Row {
     wrote: &'static str,
 }
 
-const ROWS: [Row; 12] = [
+const ROWS: [Row; 17] = [
     Row {
         words: "group --by k --agg sum:v",
         input: "k:i128,v:i32\n1,5\n4294967297,6\n1,7\n",
@@ -140,6 +139,36 @@ const ROWS: [Row; 12] = [
         input: "date,temp:i64",
         code: 0,
         wrote: "date:str,temp_sum:i64,temp_count:u32\n",
+    },
+    Row {
+        words: "group --by date --agg sum:temp --agg min:temp --agg count:temp",
+        input: DAYS,
+        code: 0,
+        wrote: "date:str,temp_sum:i64,temp_min:i64,temp_count:u32\n2020-08-21,30,10,2\n2020-08-22,8,1,2\n2020-08-23,9,9,1\n",
+    },
+    Row {
+        words: "group --by date --agg groups --agg list:temp --agg n_unique:temp",
+        input: DAYS,
+        code: 0,
+        wrote: "date:str,groups:list[u32],temp_agg_list:list[i64],temp_n_unique:u32\n2020-08-21,\"[0,1]\",\"[20,10]\",2\n2020-08-22,\"[2,4]\",\"[7,1]\",2\n2020-08-23,[3],[9],1\n",
+    },
+    Row {
+        words: "group --by g --agg min:c",
+        input: "g:i32,c:lexcat\n1,b\n1,a\n",
+        code: 0,
+        wrote: "g:i32,c_min:lexcat\n1,a\n",
+    },
+    Row {
+        words: "group --by g --agg min:c",
+        input: "g:i32,c:cat\n1,b\n1,a\n",
+        code: 0,
+        wrote: "g:i32,c_min:cat\n1,b\n",
+    },
+    Row {
+        words: "group --by k --agg sum:b --agg min:b --agg valid:b",
+        input: "k,b:bool\nx,true\nx,\nx,true\nx,false\n",
+        code: 0,
+        wrote: "k:str,b_sum:u32,b_min:bool,b_count:u32\nx,2,false,3\n",
     },
     Row {
         words: "group --by day",
@@ -399,32 +428,40 @@ fn table_errors_print_their_lines(rt: HostRuntime) -> Result<(), Fail> {
     Ok(())
 }
 
-/// Words of a grouping with a fault, and the column that its error names; any other error has none.
+/// Words of a grouping with a fault, and what its error says.
 struct Faulty {
     words: &'static str,
-    missing: Option<&'static str>,
+    told: &'static str,
 }
 
-const FAULTY: [Faulty; 5] = [
+const FAULTY: [Faulty; 7] = [
     Faulty {
         words: "group --by day",
-        missing: Some("day"),
+        told: "column not found: day",
     },
     Faulty {
         words: "group --by date --agg sum:date --agg sum:warmth",
-        missing: Some("warmth"),
+        told: "column not found: warmth",
     },
     Faulty {
         words: "group --by day --agg sum:warmth",
-        missing: Some("day"),
+        told: "column not found: day",
     },
     Faulty {
         words: "group --by date --agg sum:date",
-        missing: None,
+        told: "invalid operation: sum of date",
     },
     Faulty {
         words: "group --by date --agg sum:temp --agg sum:temp",
-        missing: None,
+        told: "duplicate column: temp_sum",
+    },
+    Faulty {
+        words: "group --by date --by date",
+        told: "duplicate column: date",
+    },
+    Faulty {
+        words: "group --by date --agg groups --agg groups",
+        told: "duplicate column: groups",
     },
 ];
 
@@ -434,12 +471,11 @@ fn faults_are_told(rt: HostRuntime) -> Result<(), Fail> {
         let mut source = source_of(rt.alloc(), DAYS.as_bytes())?;
         let mut sink = MemSink::new(rt.alloc(), 4096, 4096, Vec::new(rt.alloc()))?;
         let status = status_of(&rt, rt.alloc(), row.words, 4096, &mut source, &mut sink)?;
-        let missing = match &status {
-            Status::Group(PolarsError::ColumnNotFound(name)) => Some(name.as_str()),
-            Status::Group(PolarsError::ComputeError) => None,
-            _ => Some("no fault"),
+        let told = match &status {
+            Status::Group(error) => format!(in rt.alloc(); "{error}")?,
+            _ => String::new(rt.alloc()),
         };
-        assert_eq!(rt; missing, row.missing);
+        assert_eq!(rt; told.as_str(), row.told);
         assert!(rt; sink.bytes().is_empty());
     }
     Ok(())

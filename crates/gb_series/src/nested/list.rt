@@ -7,7 +7,8 @@ ghost use Rattle.gb_cols.specs.Column.{HasRoom, pushed};
 ghost use Rattle.gb_defs.specs.Column.{fresh_column};
 ghost use Rattle.gb_defs.specs.ColumnType.{ListOf, part_type};
 ghost use Rattle.gb_defs.specs.Slot.{Items, Nil, items_of, slot_at};
-ghost use Rattle.gb_series.specs.Rows.{AreRowsOf};
+ghost use Rattle.gb_values.specs.Array.{Rises};
+ghost use Rattle.gb_series.specs.Rows.{AreRowsOf, lists_of};
 ghost use Rattle.gb_series.specs.Series.{lent_slot, row_slot_of};
 ghost use Rattle.gb_series.specs.Series.{value_of};
 
@@ -294,6 +295,29 @@ impl ListChunked {
             ends: Vec::new(alloc),
             items,
         }
+    }
+
+    /// As many rows as there are ends, none of them null: each holds the items up to its end, from the end of the
+    /// row before it on. Nothing is copied.
+    pub fn from_items(
+        alloc: Global,
+        name: PlSmallStr,
+        items: Series,
+        ends: Vec<usize>,
+    ) -> PolarsResult<Self>
+        requires { Rises 0 ends.items (length (value_of items).slots) }
+        ensures ok { IfOk result (λ c. c ≡ lists_of (name_of name) ends.items (value_of items)) }
+        ensures err { IfErr result IsNoMemory }
+    {
+        let count = ends.len();
+        let mut present = Vec::new(alloc);
+        present.resize(count, true)?;
+        Ok(ListChunked {
+            rows: NullChunked::new(alloc, name, count),
+            present,
+            ends,
+            items,
+        })
     }
 
     /// One row more at the end of the last chunk: a null, or the slots of a column of the items' type. These

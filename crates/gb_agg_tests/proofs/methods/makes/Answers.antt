@@ -1,18 +1,15 @@
-use Rattle.std.proofs.Common.{◌≡◌, ◌∙◌, ℕ, All, arith, length, subst, sym}
+use Rattle.std.proofs.Common.{◌≡◌, ℕ, All, arith, length, subst}
 use Rattle.gb_defs.specs.Groups.{AreMembers, lists_in}
 use Rattle.gb_groups.specs.GroupsType.{groups_of}
 use Rattle.gb_series.specs.Series.{value_of}
-use Rattle.gb_agg.specs.Folds.{AreGroupsOf}
-use Rattle.gb_agg.proofs.GroupPartLemmas.{part_whole}
 use Rattle.gb_agg_tests.proofs.methods.makes.Goals as goal
 
-pub aggregate-requires-clause-groups : goal.aggregate-requires-clause-groups
-aggregate-requires-clause-groups c =
+pub aggregate_all-requires-clause-groups : goal.aggregate_all-requires-clause-groups
+aggregate_all-requires-clause-groups g c =
     let column = value_of c.in_ok-column.column in
     let groups = groups_of c.in_ok-groups.groups in
-    let four : 4 ≡ length groups.pairs = omega (arith, c.len-2.ensures, c.if-len-ne4-2.false) in
     let high : 4 ≡ length column.slots = omega (arith, c.len.ensures.value, c.if-len-ne4.false) in
-    subst (AreGroupsOf column) (sym (c.new.ensures ∙ part_whole groups 4 four)) (record {
+    record {
       rows = subst (λ (n : ℕ). All (AreMembers n) (lists_in groups)) high c.in_ok-groups.ensures;
-      few = omega (arith, four);
-    })
+      few = omega (arith, c.len-2.ensures, c.if-len-ne4-2.false);
+    }

@@ -1,15 +1,14 @@
-use Rattle.std.proofs.Common.{◌≡◌, ◌∙◌, ap, sym, subst, List, [], ◌∷◌, false, is_none, arith}
+use Rattle.std.proofs.Common.{◌≡◌, ◌∙◌, ap, sym, subst, List, [], ◌∷◌, arith}
 use Rattle.std.proofs.lemmas.List.{take_all, map-append}
 use Rattle.std.proofs.lemmas.Result.{err_from_is_err_and}
-use Rattle.gb_defs.specs.Column.{content, find_column}
+use Rattle.gb_defs.specs.Column.{content}
 use Rattle.gb_defs.specs.Fault.{unfit_fault}
 use Rattle.gb_series.specs.declared.series.Series.{Series}
-use Rattle.gb_base.specs.PlSmallStr.{name_of}
 use Rattle.gb_base.specs.PolarsError.{Explains, cause_of}
 use Rattle.gb_defs.specs.Groups.{lists_in}
 use Rattle.gb_groups.specs.GroupsType.{groups_of}
 use Rattle.gb_series.specs.Series.{value_of}
-use Rattle.gb_run.specs.Grouping.{aggregates_over, unfit_cause}
+use Rattle.gb_run.specs.Grouping.{HasColumn, aggregates_over, unfit_cause}
 use Rattle.gb_run.specs.Request.{aggs_of}
 use Rattle.gb_text.specs.Text.{contents_of}
 use Rattle.gb_run.specs.declared.words.Agg.{Agg}
@@ -18,20 +17,19 @@ use Rattle.gb_run.proofs.CauseLemmas.{causes_at, causes_more, first_cause}
 use Rattle.gb_run.proofs.PartLemmas.{parts_more}
 use Rattle.gb_run.proofs.grouping.aggregates.Goals as goal
 
-pub found_aggregate-requires-clause-found : goal.found_aggregate-requires-clause-found
-found_aggregate-requires-clause-found g c κs within =
+pub agg_column-requires-clause-found : goal.agg_column-requires-clause-found
+agg_column-requires-clause-found g c κs within =
     let frame = c.args.frame.now in
-    subst (λ (agg : Agg). is_none (find_column frame (name_of agg.column)) ≡ false) (sym c.agg-item.is)
-    (found_at frame c.args.aggs.now c.loop-agg.agg-index c.agg-item.result c.loop-agg-test.true c.requires.found)
+    subst (HasColumn frame) (sym c.agg-item.is) (found_at frame c.args.aggs.now c.loop-agg.agg-index c.agg-item.result c.loop-agg-test.true c.requires.found)
 
-pub returns-in_err-found_aggregate-clause-err : goal.returns-in_err-found_aggregate-clause-err
-returns-in_err-found_aggregate-clause-err g c =
+pub returns-in_err-agg_column-clause-err : goal.returns-in_err-agg_column-clause-err
+returns-in_err-agg_column-clause-err g c =
     let frame = c.args.frame.now in
     let aggs = c.args.aggs.now in
     let explained : (e : _) → Explains e (unfit_cause frame c.agg-item.result) → Explains e (unfit_fault frame (aggs_of aggs)) =
     λ e h. rw (unfit_is frame aggs) (causes_at (unfit_cause frame) aggs c.loop-agg.agg-index c.agg-item.result c.loop-agg-test.true c.loop-agg.invariant.fit (cause_of e) (rw (← c.agg-item.is) h)) in
-    let p = err_from_is_err_and c.from_residual-in_err-found_aggregate.result c.from_residual-in_err-found_aggregate.ensures.1 in
-    rw (p.1, p.2) (explained c.in_err-found_aggregate.field-0.0 c.in_err-found_aggregate.ensures.err)
+    let p = err_from_is_err_and c.from_residual-in_err-agg_column.result c.from_residual-in_err-agg_column.ensures.1 in
+    rw (p.1, p.2) (explained c.in_err-agg_column.field-0.0 c.in_err-agg_column.ensures.err)
 
 pub loop-agg-preserved : goal.loop-agg-preserved
 loop-agg-preserved g c =
@@ -40,12 +38,12 @@ loop-agg-preserved g c =
     let i = c.loop-agg.agg-index in
     let agg = c.agg-item.result in
     let part = λ (s : Series). content (value_of s) in
-    let one = c.in_ok-found_aggregate.field-0 in
+    let one = c.in_ok-agg_column.field-0 in
     record {
       parts = ap contents_of c.in_ok-push.ensures.items ∙ map-append part c.loop-agg.columns.items (one ∷ [])
           ∙ parts_more frame [] [] (lists_in (groups_of c.args.groups.now)) aggs i agg c.loop-agg-test.true c.agg-item.is
-          (contents_of c.loop-agg.columns.items) (part one) c.loop-agg.invariant.parts c.in_ok-found_aggregate.ensures.ok;
-      fit = causes_more (unfit_cause frame) aggs i agg c.loop-agg-test.true c.loop-agg.invariant.fit (rw (← c.agg-item.is) c.in_ok-found_aggregate.ensures.fits);
+          (contents_of c.loop-agg.columns.items) (part one) c.loop-agg.invariant.parts c.in_ok-agg_column.ensures.ok;
+      fit = causes_more (unfit_cause frame) aggs i agg c.loop-agg-test.true c.loop-agg.invariant.fit (rw (← c.agg-item.is) c.in_ok-agg_column.ensures.fits);
     }
 
 pub returns-clause-ok : goal.returns-clause-ok

@@ -5,7 +5,7 @@ use Rattle.gb_defs.specs.Groups.{lists_in}
 use Rattle.gb_groups.specs.GroupsType.{groups_of}
 use Rattle.gb_agg.specs.Folds.{folded}
 use Rattle.gb_agg.specs.Method.{method_of}
-use Rattle.gb_agg.proofs.by_workers.aggregate_all.Goals as goal
+use Rattle.gb_agg.proofs.by_workers.aggregate_by_parts.Goals as goal
 
 pub aggregate_whole-requires-2-clause-groups : goal.aggregate_whole-requires-2-clause-groups
 aggregate_whole-requires-2-clause-groups g c κs within = rw c.in_ok-whole.ensures.ok (record { rows = c.requires.groups.rows; few = c.requires.groups.few })
