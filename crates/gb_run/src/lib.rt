@@ -3,6 +3,7 @@
 #![tactic(auto)]
 
 mod grouping;
+pub mod limits;
 mod report;
 pub mod run;
 mod words;

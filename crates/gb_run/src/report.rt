@@ -14,6 +14,7 @@ ghost use Rattle.gb_text.specs.Stream.{HasReadAll};
 ghost use Rattle.gb_text.specs.declared.status.Status.TheVariants as status;
 
 use crate::grouping::group_frame;
+use crate::limits::Limits;
 use crate::words::{Agg, Request, ToolOptions};
 use gb_base::device::{Gate, Source};
 use gb_base::pool::Pool;
@@ -25,8 +26,9 @@ use gb_text::text;
 use std::alloc::{AllocError, Global};
 use std::thread::Threads;
 
-// The pool that the options ask, each within its bounds.
-fn pool_of(options: &ToolOptions) -> Pool
+// The pool that the options ask, each within its bounds. No answer depends on its seed, which nobody knows who
+// does not know the salt.
+fn pool_of(options: &ToolOptions, salt: u64) -> Pool
     ensures workers { workers_of result ≡ bounded_workers (options_of options.now) }
     ensures threshold { threshold_of result ≡ bounded_threshold (options_of options.now) }
 {
@@ -35,7 +37,7 @@ fn pool_of(options: &ToolOptions) -> Pool
         options.partitions.clamp(1, 1024),
         options.threshold.max(1),
         options.piece.max(1),
-        options.seed,
+        options.seed ^ salt,
     )
 }
 
@@ -49,31 +51,31 @@ pub struct Answer {
     pub line: String,
 }
 
-/// The answer to the request over the table that the source has left, if it is at most `limit` bytes. The
+/// The answer to the request over the table that the source has left, if it is no longer than the limit. The
 /// request has a key.
 pub fn report<R: Threads + Sync, S: Source, G: Gate + Sync>(
     rt: &R,
     alloc: Global,
     request: &Request,
     source: &mut S,
-    limit: u64,
+    limits: Limits,
     gate: &G,
 ) -> Result<Answer, Status>
-    requires limit { limit ≤ 4294967295 }
+    requires limit { limits.input_bytes ≤ 4294967295 }
     requires some { HasKeys (request_of request.now) }
     ensures ok { IfOk result (λ answer.
-        HasReadAll limit (S.left source.old) (S.left source.new) (λ bytes.
+        HasReadAll limits.input_bytes (S.left source.old) (S.left source.new) (λ bytes.
         IsAnswerTo (request_of request.now) bytes answer.text.items (string_bytes answer.line))) }
     ensures err { IfErr result (IsRefusedText (outcome (request_of request.now))
-        (S.faults source.old) (S.faults source.new) limit
+        (S.faults source.old) (S.faults source.new) limits.input_bytes
         (S.left source.old) (S.left source.new)) }
     ensures taken { result ≢ Err status.ReadFault
-        → HasTaken (limit + 65536) (S.left source.old) (S.left source.new) }
+        → HasTaken (limits.input_bytes + 65536) (S.left source.old) (S.left source.new) }
     ensures kept { S.faults source.old ≤ S.faults source.new }
 {
     match request {
         Request::Group { by, aggs, options } => {
-            group_report(rt, alloc, by, aggs, options, source, limit, gate)
+            group_report(rt, alloc, by, aggs, options, source, limits, gate)
         }
     }
 }
@@ -125,30 +127,30 @@ fn group_report<R: Threads + Sync, S: Source, G: Gate + Sync>(
     aggs: &[Agg],
     options: &ToolOptions,
     source: &mut S,
-    limit: u64,
+    limits: Limits,
     gate: &G,
 ) -> Result<Answer, Status>
-    requires limit { limit ≤ 4294967295 }
+    requires limit { limits.input_bytes ≤ 4294967295 }
     requires some { 0 < length by.now }
     ensures ok { let request = group_by by.now aggs.now options.now in IfOk result (λ answer.
-        HasReadAll limit (S.left source.old) (S.left source.new) (λ bytes.
+        HasReadAll limits.input_bytes (S.left source.old) (S.left source.new) (λ bytes.
         IsAnswerTo request bytes answer.text.items (string_bytes answer.line))) }
     ensures err { IfErr result (IsRefusedText (outcome (group_by by.now aggs.now options.now))
-        (S.faults source.old) (S.faults source.new) limit
+        (S.faults source.old) (S.faults source.new) limits.input_bytes
         (S.left source.old) (S.left source.new)) }
     ensures taken { result ≢ Err status.ReadFault
-        → HasTaken (limit + 65536) (S.left source.old) (S.left source.new) }
+        → HasTaken (limits.input_bytes + 65536) (S.left source.old) (S.left source.new) }
     ensures kept { S.faults source.old ≤ S.faults source.new }
 {
     let names = names_asked(alloc, by, aggs)?;
-    let pool = pool_of(options);
+    let pool = pool_of(options, limits.salt);
     let reading = Reading {
         names: &names,
         null_word: options.null_word.as_str(),
         workers: pool.workers(),
         block: BLOCK_BYTES,
     };
-    let frame = read_table(rt, alloc, source, limit, &reading)?;
+    let frame = read_table(rt, alloc, source, limits.input_bytes, &reading)?;
     let (answer, trace) = group_frame(rt, alloc, &frame, by, aggs, &pool, gate)?;
     let text = text::text_of(alloc, &answer, options.null_word.as_str())?;
     let line = trace_line(alloc, options.explain, &trace)?;

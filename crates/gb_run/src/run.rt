@@ -16,6 +16,7 @@ ghost use Rattle.gb_text.specs.Status.{IsTold, Tells, fault_value};
 ghost use Rattle.gb_text.specs.declared.status.TableFault.{TableFault};
 ghost use Rattle.gb_text.specs.declared.status.Status.TheVariants as status;
 
+use crate::limits::Limits;
 use crate::report::{Answer, report};
 use crate::words::request_of;
 use gb_base::device::{Gate, Sink, Source};
@@ -24,37 +25,30 @@ use gb_text::status::Status;
 use std::alloc::Global;
 use std::thread::Threads;
 
-/// What a run may take.
-#[derive(Clone, Copy, Debug, PartialEq, Eq)]
-pub struct Limits {
-    /// The longest input, in bytes.
-    pub input_bytes: u64,
-}
-
 // Reads the table and answers the request of the words over it; the error is the status of a run with no
 // answer.
 fn prepare<R: Threads + Sync, S: Source, G: Gate + Sync>(
     rt: &R,
     alloc: Global,
     words: &[String],
-    limit: u64,
+    limits: Limits,
     source: &mut S,
     gate: &G,
 ) -> Result<Answer, Status>
-    requires limit { limit ≤ 4294967295 }
-    ensures ok { IfOk result (λ answer. IsAnswer (task_of words.now (S.left source.old) limit)
-        answer.text.items (string_bytes answer.line)) }
-    ensures err { IfErr result (HasNoAnswer (task_of words.now (S.left source.old) limit)
-        (S.faults source.old) (S.faults source.new)) }
+    requires limit { limits.input_bytes ≤ 4294967295 }
+    ensures ok { let task = task_of words.now (S.left source.old) limits.input_bytes in
+        IfOk result (λ answer. IsAnswer task answer.text.items (string_bytes answer.line)) }
+    ensures err { let task = task_of words.now (S.left source.old) limits.input_bytes in
+        IfErr result (HasNoAnswer task (S.faults source.old) (S.faults source.new)) }
     ensures read { OnOk result (IsReadToEnd (S.left source.old) (S.left source.new)) }
     ensures ended { IfErr result (λ s. has_ended s ≡ true
         → IsReadToEnd (S.left source.old) (S.left source.new)) }
     ensures taken { result ≢ Err status.ReadFault
-        → HasTaken (limit + 65536) (S.left source.old) (S.left source.new) }
+        → HasTaken (limits.input_bytes + 65536) (S.left source.old) (S.left source.new) }
     ensures kept { S.faults source.old ≤ S.faults source.new }
 {
     match request_of(alloc, words) {
-        Ok(Some(request)) => report(rt, alloc, &request, source, limit, gate),
+        Ok(Some(request)) => report(rt, alloc, &request, source, limits, gate),
         Ok(None) => Err(Status::Usage),
         Err(_) => Err(Status::NoMemory),
     }
@@ -65,15 +59,15 @@ fn answer<R: Threads + Sync, S: Source, W: Sink, E: Sink, G: Gate + Sync>(
     rt: &R,
     alloc: Global,
     words: &[String],
-    limit: u64,
+    limits: Limits,
     source: &mut S,
     sink: &mut W,
     notes: &mut E,
     gate: &G,
 ) -> Status
-    requires limit { limit ≤ 4294967295 }
+    requires limit { limits.input_bytes ≤ 4294967295 }
     ensures cause { let run : Run = record {
-      task = task_of words.now (S.left source.old) limit;
+      task = task_of words.now (S.left source.old) limits.input_bytes;
       read_faults = S.faults source.old;
       read_faults_after = S.faults source.new;
       held = W.held sink.old;
@@ -84,14 +78,14 @@ fn answer<R: Threads + Sync, S: Source, W: Sink, E: Sink, G: Gate + Sync>(
     ensures ended { has_ended result ≡ true
         → IsReadToEnd (S.left source.old) (S.left source.new) }
     ensures unchanged { result ≢ status.Done → result ≢ status.WriteFault → sink.new ≡ sink.old }
-    ensures notes { AreNotes (task_of words.now (S.left source.old) limit) result
+    ensures notes { AreNotes (task_of words.now (S.left source.old) limits.input_bytes) result
         (E.held notes.old) (E.held notes.new) (E.faults notes.old) (E.faults notes.new) }
     ensures taken { result ≢ status.ReadFault
-        → HasTaken (limit + 65536) (S.left source.old) (S.left source.new) }
+        → HasTaken (limits.input_bytes + 65536) (S.left source.old) (S.left source.new) }
     ensures read_faults { S.faults source.old ≤ S.faults source.new }
     ensures write_faults { W.faults sink.old ≤ W.faults sink.new }
 {
-    match prepare(rt, alloc, words, limit, source, gate) {
+    match prepare(rt, alloc, words, limits, source, gate) {
         Ok(answer) => deliver(sink, notes, answer.text.as_slice(), answer.line.as_bytes()),
         Err(status) => tell(alloc, notes, status),
     }
@@ -178,7 +172,7 @@ pub fn run<R: Threads + Sync, S: Source, W: Sink, E: Sink, G: Gate + Sync>(
         rt,
         alloc,
         words,
-        limits.input_bytes,
+        limits,
         source,
         sink,
         notes,

@@ -1,7 +1,8 @@
 //! What a run says beside its answer: how it grouped the rows, where that is asked, and why there is no answer.
 
 use gb_base::memory::{FreeGate, MemSink, SoundSource};
-use gb_run::run::{Limits, run};
+use gb_run::limits::Limits;
+use gb_run::run::run;
 use gb_text::status::Status;
 use std::alloc::Global;
 use std::test::Fail;
@@ -30,7 +31,10 @@ fn run_ends<R: Threads + Sync>(
     let mut source = SoundSource::new(Vec::from_slice(alloc, input.as_bytes())?);
     let mut sink = MemSink::new(alloc, 256, 4096, Vec::new(alloc))?;
     let mut notes = MemSink::new(alloc, room, 5, Vec::new(alloc))?;
-    let limits = Limits { input_bytes: 200 };
+    let limits = Limits {
+        input_bytes: 200,
+        salt: 0,
+    };
     let status = run(
         rt,
         alloc,

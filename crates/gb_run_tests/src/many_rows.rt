@@ -1,7 +1,8 @@
 //! A table of more rows than one worker folds alone.
 
 use gb_base::memory::{FreeGate, MemSink, SoundSource};
-use gb_run::run::{Limits, run};
+use gb_run::limits::Limits;
+use gb_run::run::run;
 use gb_text::status::Status;
 use std::alloc::Global;
 use std::test::Fail;
@@ -35,6 +36,7 @@ fn written<R: Threads + Sync>(
     let mut notes = MemSink::new(alloc, 0, 1, Vec::new(alloc))?;
     let limits = Limits {
         input_bytes: 1_000_000,
+        salt: 0,
     };
     let status = run(
         rt,

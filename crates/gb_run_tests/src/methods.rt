@@ -2,7 +2,8 @@
 //! look at the cells makes.
 
 use gb_base::memory::{FreeGate, MemSink, SoundSource};
-use gb_run::run::{Limits, run};
+use gb_run::limits::Limits;
+use gb_run::run::run;
 use std::alloc::Global;
 use std::test::Fail;
 use std::thread::Threads;
@@ -357,7 +358,10 @@ fn runs_so<R: Threads + Sync>(
     let mut source = SoundSource::new(Vec::from_slice(alloc, input.as_bytes())?);
     let mut sink = MemSink::new(alloc, 4096, 4096, Vec::new(alloc))?;
     let mut notes = MemSink::new(alloc, 0, 1, Vec::new(alloc))?;
-    let limits = Limits { input_bytes: 4096 };
+    let limits = Limits {
+        input_bytes: 4096,
+        salt: 0,
+    };
     let status = run(
         rt,
         alloc,

@@ -3,7 +3,8 @@
 
 use gb_base::error::PolarsError;
 use gb_base::memory::{FreeGate, MemSink, SoundSource};
-use gb_run::run::{Limits, run};
+use gb_run::limits::Limits;
+use gb_run::run::run;
 use gb_text::status::Status;
 use std::alloc::{AllocError, Global};
 use std::test::Fail;
@@ -199,7 +200,10 @@ fn written<R: Threads + Sync>(
     let mut source = SoundSource::new(Vec::from_slice(alloc, input.as_bytes())?);
     let mut sink = MemSink::new(alloc, 4096, 4096, Vec::new(alloc))?;
     let mut notes = MemSink::new(alloc, 0, 1, Vec::new(alloc))?;
-    let limits = Limits { input_bytes: 65536 };
+    let limits = Limits {
+        input_bytes: 65536,
+        salt: 0,
+    };
     let status = run(
         rt,
         alloc,

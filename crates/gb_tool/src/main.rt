@@ -15,15 +15,24 @@ mod tests;
 
 use gb_base::memory::FreeGate;
 use gb_base::standard::{StderrSink, StdinSource, StdoutSink};
-use gb_run::run::{Limits, run};
+use gb_run::limits::Limits;
+use gb_run::run::run;
 use gb_text::status::Status;
 use std::env;
 use std::io::ErrorKind;
 use std::process::ExitCode;
+use std::random::RandomSource;
 
-const LIMITS: Limits = Limits {
-    input_bytes: 268435456,
-};
+const INPUT_BYTES: u64 = 268_435_456;
+
+// Bits that nobody knows before the run: none where the system gives none.
+fn salt(rt: &HostRuntime) -> u64 {
+    let mut bytes = [0; 8];
+    match rt.fill_bytes(&mut bytes) {
+        Ok(()) => u64::from_le_bytes(bytes),
+        Err(_) => 0,
+    }
+}
 
 // The words after the program's name. Words that are no text spell no request.
 fn words_of(rt: &HostRuntime) -> Result<Vec<String>, Status> {
@@ -42,11 +51,15 @@ fn main(rt: HostRuntime) -> ExitCode {
     let mut source = StdinSource::new(rt.stdin());
     let mut sink = StdoutSink::new(rt.stdout());
     let mut notes = StderrSink::new(rt.stderr());
+    let limits = Limits {
+        input_bytes: INPUT_BYTES,
+        salt: salt(&rt),
+    };
     let status = run(
         &rt,
         rt.alloc(),
         words.as_slice(),
-        LIMITS,
+        limits,
         &mut source,
         &mut sink,
         &mut notes,

@@ -4,7 +4,8 @@ ghost use Rattle.std.specs.Prelude.{◌≤◌};
 
 use gb_base::device::{Failed, Gate, Source};
 use gb_base::memory::{FreeGate, MemSink, SoundSource};
-use gb_run::run::{Limits, run};
+use gb_run::limits::Limits;
+use gb_run::run::run;
 use gb_text::status::{Status, TableError, TableFault};
 use std::alloc::Global;
 use std::test::Fail;
@@ -70,7 +71,10 @@ pub(crate) fn status_through<R: Threads + Sync, S: Source, G: Gate + Sync>(
         spelled.push(String::from_str(alloc, word)?)?;
     }
     let mut notes = MemSink::new(alloc, 0, 1, Vec::new(alloc))?;
-    let limits = Limits { input_bytes: limit };
+    let limits = Limits {
+        input_bytes: limit,
+        salt: 0,
+    };
     Ok(run(
         rt,
         alloc,

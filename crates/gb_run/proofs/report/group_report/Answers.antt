@@ -18,7 +18,7 @@ pub returns-in_err-frame-clause-err : goal.returns-in_err-frame-clause-err
 returns-in_err-frame-clause-err g c =
     let p = err_from_is_err_and c.from_residual-in_err-frame.result c.from_residual-in_err-frame.ensures.1 in
     let refused = rw c.as_str.ensures at c.in_err-frame.ensures.err in
-    rw (p.1, p.2) (refused_table (names_of c.args.by.now) (aggs_of c.args.aggs.now) (options_of c.args.options.now) _ _ c.args.limit _ _ c.in_err-frame.field-0.0 refused)
+    rw (p.1, p.2) (refused_table (names_of c.args.by.now) (aggs_of c.args.aggs.now) (options_of c.args.options.now) _ _ c.args.limits.input_bytes _ _ c.in_err-frame.field-0.0 refused)
 
 pub returns-in_err-answer-clause-err : goal.returns-in_err-answer-clause-err
 returns-in_err-answer-clause-err g c =
@@ -27,7 +27,7 @@ returns-in_err-answer-clause-err g c =
     let options = options_of c.args.options.now in
     let p = err_from_is_err_and c.from_residual-in_err-answer.result c.from_residual-in_err-answer.ensures.1 in
     let read = rw (c.as_str.ensures, c.deref.ensures.value, c.in_ok-names.ensures) at c.in_ok-frame.ensures.ok in
-    rw p.1 (refused_frame (outcome (group_by c.args.by.now c.args.aggs.now c.args.options.now)) _ _ c.args.limit _ _ p.0 (read_map c.args.limit _ _
+    rw p.1 (refused_frame (outcome (group_by c.args.by.now c.args.aggs.now c.args.options.now)) _ _ c.args.limits.input_bytes _ _ p.0 (read_map c.args.limits.input_bytes _ _
     (λ bytes. asked_table (asked_names by aggs) bytes options.null_word ≡ Ok (map rechunked c.in_ok-frame.frame))
     (λ bytes. IsRefusedReport p.0 (outcome (group_by c.args.by.now c.args.aggs.now c.args.options.now) bytes))
     (λ bytes r. bad_group by aggs options bytes c.in_ok-frame.frame (rw (length-map c.args.by.now name_of) c.requires.some) r c.in_err-answer.field-0.0 p.0 c.in_err-answer.ensures.err p.2) read))
@@ -45,7 +45,7 @@ returns-clause-ok g c =
     let read = rw (c.as_str.ensures, c.deref.ensures.value, c.in_ok-names.ensures) at c.in_ok-frame.ensures.ok in
     let printed = rw c.as_str-2.ensures at c.in_ok-text.ensures.ok in
     let traced = rw (c.pool_of-pool.ensures.workers, c.pool_of-pool.ensures.threshold) at c.in_ok-answer.ensures.traced in
-    read_map c.args.limit _ _ (λ bytes. asked_table (asked_names by aggs) bytes options.null_word ≡ Ok (map rechunked frame))
+    read_map c.args.limits.input_bytes _ _ (λ bytes. asked_table (asked_names by aggs) bytes options.null_word ≡ Ok (map rechunked frame))
     (λ bytes. IsAnswerTo (group_by c.args.by.now c.args.aggs.now c.args.options.now) bytes text line)
     (λ bytes r. record {
       text_is = good_report by aggs options bytes frame some r (map content c.in_ok-answer.answer) text c.in_ok-answer.ensures.ok printed;
