@@ -1,0 +1,3 @@
+pub mod Agg
+pub mod GroupBy
+pub mod Grouping

@@ -1,0 +1,6 @@
+//! Frames grouped by their columns: the keys at the first row of each group, and aggregates over its rows.
+#![tactic(auto)]
+
+pub mod agg;
+pub mod group_by;
+pub mod group_frame;
