@@ -1,5 +1,5 @@
 -- The numbers of rows by the lists that have them, and that those of classes tell slots.
-use Rattle.std.proofs.Common.{◌≡◌, ◌∙◌, ℕ, zero, suc, ◌+◌, ◌<◌, ◌≤◌, ◌||◌, ◌&&◌, Bool, true, false, not, cond, inl, inr, eqb, List, [], ◌∷◌, ◌++◌, All, length, get_or, set, map, refl, sym, ap, arith}
+use Rattle.std.proofs.Common.{◌≡◌, ◌∙◌, ℕ, zero, suc, ◌+◌, ◌<◌, ◌≤◌, ◌||◌, ◌&&◌, Bool, true, false, not, cond, inl, inr, eqb, List, [], ◌∷◌, ◌++◌, length, get_or, set, map, refl, sym, ap, arith}
 use Rattle.std.specs.Prelude.{if◌then◌else◌}
 use Rattle.std.specs.Cmp.{IsEquivalence}
 use Rattle.std.specs.List.{list_any}
@@ -11,10 +11,10 @@ use Rattle.std.proofs.lemmas.Map.Views.{any-filter_same}
 use Rattle.std.proofs.lemmas.Simd.{map-map}
 use Rattle.gb_defs.specs.Classes.{agree_by, class, firsts, groups, rows_below, same_slot}
 use Rattle.gb_defs.specs.Groups.{rows_of_pair}
-use Rattle.gb_defs.specs.Slot.{Slot, slot_at, slot_eq}
-use Rattle.gb_defs.proofs.ClassesLemmas.{firsts_push, groups_alike, rows_below_all, rows_below_more}
+use Rattle.gb_defs.specs.Slot.{Slot, slot_at}
+use Rattle.gb_defs.proofs.ClassesLemmas.{firsts_few, firsts_push, groups_alike, rows_below_all, rows_below_more}
 use Rattle.gb_defs.proofs.SlotLemmas.{slot_eq_equiv}
-use Rattle.gb_agg.specs.Distinct.{AreClasses, AreNumbered, TellSlots, is_listed, number_from, numbered}
+use Rattle.gb_agg.specs.Distinct.{AreClasses, AreNumbered, is_listed, number_from, numbered}
 
 -- ---- one row more takes a number
 
@@ -106,7 +106,7 @@ any_at p zero row lt h = absurd (omega (arith, lt))
 any_at p (suc n) row lt h =
     let next : suc n ≡ n + 1 = omega arith in
     let parts : list_any p (rows_below (suc n)) ≡ (list_any p (rows_below n) || (p n || false)) =
-        ap (λ k. list_any p (rows_below k)) next ∙ ap (list_any p) (rows_below_more n) ∙ list_any-append p (rows_below n) (n ∷ []) in
+    ap (λ k. list_any p (rows_below k)) next ∙ ap (list_any p) (rows_below_more n) ∙ list_any-append p (rows_below n) (n ∷ []) in
     elim (cases_eq row n) [
       | inl same ↦ rw (parts, ap p (sym same) ∙ h) (or_yes (list_any p (rows_below n)))
       | inr away ↦ rw (parts, any_at p n row (omega (arith, lt, away)) h) refl
@@ -136,17 +136,17 @@ module _ (agree : ℕ → ℕ → Bool) (laws : IsEquivalence agree) where
       let before = any_first n i in
       let firsts_before = firsts agree (rows_below n) in
       let rows_now : list_any (agree i) (rows_below (suc n)) ≡ (list_any (agree i) (rows_below n) || (agree i n || false)) =
-          ap (λ k. list_any (agree i) (rows_below k)) next ∙ ap (list_any (agree i)) (rows_below_more n) ∙ list_any-append (agree i) (rows_below n) (n ∷ []) in
+      ap (λ k. list_any (agree i) (rows_below k)) next ∙ ap (list_any (agree i)) (rows_below_more n) ∙ list_any-append (agree i) (rows_below n) (n ∷ []) in
       let firsts_now : firsts agree (rows_below (suc n)) ≡ firsts_before ++ cond (not (list_any (agree n) (rows_below n))) (n ∷ []) [] =
-          ap (λ k. firsts agree (rows_below k)) next ∙ ap (firsts agree) (rows_below_more n) ∙ firsts_push agree (rows_below n) n (rows_below_all n) in
+      ap (λ k. firsts agree (rows_below k)) next ∙ ap (firsts agree) (rows_below_more n) ∙ firsts_push agree (rows_below n) n (rows_below_all n) in
       elim (cases_Bool (list_any (agree n) (rows_below n))) [
         | inl seen ↦
             let same : firsts agree (rows_below (suc n)) ≡ firsts_before =
-                firsts_now ∙ ap (λ b. firsts_before ++ cond (not b) (n ∷ []) []) seen ∙ append-nil firsts_before in
+            firsts_now ∙ ap (λ b. firsts_before ++ cond (not b) (n ∷ []) []) seen ∙ append-nil firsts_before in
             rows_now ∙ absorbed i n seen ∙ before ∙ sym (ap (list_any (agree i)) same)
         | inr fresh ↦
             let longer : firsts agree (rows_below (suc n)) ≡ firsts_before ++ n ∷ [] =
-                firsts_now ∙ ap (λ b. firsts_before ++ cond (not b) (n ∷ []) []) fresh in
+            firsts_now ∙ ap (λ b. firsts_before ++ cond (not b) (n ∷ []) []) fresh in
             rows_now ∙ ap (λ b. b || (agree i n || false)) before ∙ sym (list_any-append (agree i) firsts_before (n ∷ [])) ∙ sym (ap (list_any (agree i)) longer)
       ]
     where
@@ -176,6 +176,7 @@ module _ (agree : ℕ → ℕ → Bool) (laws : IsEquivalence agree) where
       where
         same : (k : ℕ) → eqb row k ≡ true → row ≡ k
         same k e = elim (cases_eq row k) [ inl s ↦ s | inr away ↦ let never = sym (ne_eqb row k away) ∙ e in cc ]
+
         and_yes : (b : Bool) → (b && true) ≡ b
         and_yes true = refl
         and_yes false = refl
@@ -207,16 +208,16 @@ module _ (agree : ℕ → ℕ → Bool) (laws : IsEquivalence agree) where
     numbers_tell row other here there = elim (cases_Bool (agree row other)) [
       | inl same ↦
           rw same (sym (eq-eqb _ _ (number_same 0 lists row other 0 (λ k lt.
-              in_list k row lt here ∙ laws.symm (get_or first_rows k 0) row ∙ laws.congr row other (get_or first_rows k 0) same ∙ laws.symm other (get_or first_rows k 0) ∙ sym (in_list k other lt there)))))
+          in_list k row lt here ∙ laws.symm (get_or first_rows k 0) row ∙ laws.congr row other (get_or first_rows k 0) same ∙ laws.symm other (get_or first_rows k 0) ∙ sym (in_list k other lt there)))))
       | inr apart ↦
           let one = number_found 0 lists row 0 (covered row here) in
           let two = number_found 0 lists other 0 (covered other there) in
           rw apart (sym (ne_eqb _ _ (λ e.
-              let at : one.at ≡ two.at = omega (arith, one.is, two.is, e) in
-              let first = get_or first_rows one.at 0 in
-              let left : agree first row ≡ true = sym (in_list one.at row one.inside here) ∙ one.listed in
-              let right : agree first other ≡ true = sym (in_list one.at other one.inside there) ∙ ap (λ k. is_listed other (get_or lists k [])) at ∙ two.listed in
-              let never = sym apart ∙ sym (laws.congr first row other left) ∙ right in cc)))
+          let at : one.at ≡ two.at = omega (arith, one.is, two.is, e) in
+          let first = get_or first_rows one.at 0 in
+          let left : agree first row ≡ true = sym (in_list one.at row one.inside here) ∙ one.listed in
+          let right : agree first other ≡ true = sym (in_list one.at other one.inside there) ∙ ap (λ k. is_listed other (get_or lists k [])) at ∙ two.listed in
+          let never = sym apart ∙ sym (laws.congr first row other left) ∙ right in cc)))
     ]
 
 -- ---- the classes of slots
@@ -257,3 +258,9 @@ module _ (slots : List Slot) (pairs : List (ℕ × List ℕ)) (grouped : pairs �
         ∙ ap (λ n. eqb n (number_from 0 (lists (same_slot slots) (same_laws slots) (length slots)) j 0)) (sym (number_at i here))
         ∙ ap (λ n. eqb (get_or numbers i 0) n) (sym (number_at j there));
   }
+
+-- there are no more classes than rows
+pub classes_few : (agree : ℕ → ℕ → Bool) (n : ℕ) (pairs : List (ℕ × List ℕ)) → pairs ≡ groups agree (rows_below n) → length pairs ≤ n
+unfolding groups
+classes_few agree n pairs is =
+    omega (arith, ap (λ (ps : List (ℕ × List ℕ)). length ps) is, length-map {B = ℕ × List ℕ} (firsts agree (rows_below n)) (λ i. (i, class agree (rows_below n) i)), firsts_few agree n)

@@ -9,7 +9,7 @@ use Rattle.gb_defs.specs.Column.{ColumnValue}
 use Rattle.gb_defs.specs.Fold.{NUnique, distinct_count, fold_picked, number_slot, picked}
 use Rattle.gb_defs.specs.Groups.{AreMembers}
 use Rattle.gb_agg.specs.Folds.{fold_in}
-use Rattle.gb_defs.specs.Slot.{Nil, Slot, slot_at, slot_eq}
+use Rattle.gb_defs.specs.Slot.{Nil, Slot, slot_at}
 use Rattle.gb_defs.proofs.ClassesLemmas.{firsts_alike, firsts_push, rows_below_all, rows_below_more}
 use Rattle.gb_agg.specs.Distinct.{AreClasses, TellSlots, different, different_fold, numbers_at, same_number}
 

@@ -1,5 +1,5 @@
 -- Lists of rows, one more, and the slots there.
-use Rattle.std.proofs.Common.{◌≡◌, ◌∙◌, ℕ, suc, ◌+◌, ◌<◌, ◌++◌, ◌∷◌, [], All, List, ap, arith, length, map, pos, refl, subst, sym}
+use Rattle.std.proofs.Common.{◌≡◌, ◌∙◌, ℕ, suc, ◌<◌, ◌++◌, ◌∷◌, [], All, List, ap, arith, length, map, refl, subst, sym}
 use Rattle.std.specs.List.{flat_map}
 use Rattle.std.proofs.lemmas.Grind.{flat_map-append}
 use Rattle.std.proofs.lemmas.List.{append-nil}
@@ -9,11 +9,11 @@ use Rattle.gb_defs.specs.Column.{ColumnValue, fresh_column, taken}
 use Rattle.gb_defs.specs.ColumnType.{ColumnType, ListOf, uint32}
 use Rattle.gb_defs.specs.Fold.{Groups, Implode, fold_of, fold_picked, number_slot}
 use Rattle.gb_defs.specs.Groups.{AreMembers, HasRowNumbers}
-use Rattle.gb_defs.specs.Slot.{Num, Slot, slot_at}
+use Rattle.gb_defs.specs.Slot.{Slot, slot_at}
 use Rattle.gb_values.specs.Array.{Rises}
 use Rattle.gb_series.specs.Rows.{list_slot, lists_of, pieces_to}
 use Rattle.gb_series.proofs.PieceLemmas.{piece_pushed, pieces_mapped, rises_pushed}
-use Rattle.gb_agg.specs.Folds.{fold_column, fold_in, folded, list_of_rows}
+use Rattle.gb_agg.specs.Folds.{fold_column, folded, list_of_rows}
 use Rattle.gb_agg.specs.Lists.{AreListed, HaveNumbers}
 
 pub listed_none : AreListed [] [] []

@@ -93,12 +93,7 @@ fn count_groups(
 }
 
 // How many of the numbers of a group's rows differ.
-fn count_group(
-    numbers: &[u32],
-    seen: &mut [u32],
-    number: u32,
-    group: &GroupsIndicator<'_>,
-) -> u32
+fn count_group(numbers: &[u32], seen: &mut [u32], number: u32, group: &GroupsIndicator<'_>) -> u32
     requires rows { AreMembers (length numbers.now) (pair_of group.now).1 }
     requires short { HasRowNumbers (length numbers.now) }
     requires known { All (λ number. number < length seen.old) numbers.now }
@@ -118,12 +113,7 @@ fn count_group(
 }
 
 // How many of the numbers of some rows differ. For each number it is kept which group had it last.
-fn count_different<R: GroupRows>(
-    numbers: &[u32],
-    seen: &mut [u32],
-    group: u32,
-    rows: &R,
-) -> u32
+fn count_different<R: GroupRows>(numbers: &[u32], seen: &mut [u32], group: u32, rows: &R) -> u32
     requires rows { AreMembers (length numbers.now) (R.rows rows.now) }
     requires short { HasRowNumbers (length numbers.now) }
     requires known { All (λ number. number < length seen.old) numbers.now }

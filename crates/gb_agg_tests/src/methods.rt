@@ -146,10 +146,38 @@ fn categories_are_aggregated(rt: HostRuntime) -> Result<(), Fail> {
     let alloc = rt.alloc();
     let by_code = CategoricalOrdering::Physical;
     let by_text = CategoricalOrdering::Lexical;
-    assert!(rt; makes(&rt, categories(alloc, by_code), GroupByMethod::Min, "y/-/x/-/")?);
-    assert!(rt; makes(&rt, categories(alloc, by_code), GroupByMethod::Max, "yy/-/yy/-/")?);
-    assert!(rt; makes(&rt, categories(alloc, by_text), GroupByMethod::Min, "x/-/x/-/")?);
-    assert!(rt; makes(&rt, categories(alloc, by_text), GroupByMethod::Max, "yy/-/yy/-/")?);
+    assert!(rt;
+        makes(
+            &rt,
+            categories(alloc, by_code),
+            GroupByMethod::Min,
+            "y/-/x/-/"
+        )?
+    );
+    assert!(rt;
+        makes(
+            &rt,
+            categories(alloc, by_code),
+            GroupByMethod::Max,
+            "yy/-/yy/-/"
+        )?
+    );
+    assert!(rt;
+        makes(
+            &rt,
+            categories(alloc, by_text),
+            GroupByMethod::Min,
+            "x/-/x/-/"
+        )?
+    );
+    assert!(rt;
+        makes(
+            &rt,
+            categories(alloc, by_text),
+            GroupByMethod::Max,
+            "yy/-/yy/-/"
+        )?
+    );
     assert!(rt;
         makes(
             &rt,

@@ -168,14 +168,5 @@ pub fn run<R: Threads + Sync, S: Source, W: Sink, E: Sink, G: Gate + Sync>(
     ensures read_faults { S.faults source.old ≤ S.faults source.new }
     ensures write_faults { W.faults sink.old ≤ W.faults sink.new }
 {
-    answer(
-        rt,
-        alloc,
-        words,
-        limits,
-        source,
-        sink,
-        notes,
-        gate,
-    )
+    answer(rt, alloc, words, limits, source, sink, notes, gate)
 }

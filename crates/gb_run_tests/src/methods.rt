@@ -165,7 +165,9 @@ impl Kind {
     }
 
     fn valid(&self, rows: &[usize]) -> usize {
-        rows.iter().filter(|row| !self.cell(**row).is_empty()).count()
+        rows.iter()
+            .filter(|row| !self.cell(**row).is_empty())
+            .count()
     }
 
     // The cells of the rows as the text of a list.

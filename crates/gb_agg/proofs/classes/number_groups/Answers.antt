@@ -27,8 +27,8 @@ loop-place-preserved c =
     let long : length before ≡ place = length-map (take place pairs) rows_of_pair ∙ length-take-le place pairs (omega (arith, lt)) in
     let more = numbered_more (length c.args.numbers.now) before rows c.loop-place.numbers c.loop-place.invariant in
     let lists : before ++ rows ∷ [] ≡ map rows_of_pair (take (place + 1) pairs) =
-        ap (λ (p : ℕ × List ℕ). before ++ rows_of_pair p ∷ []) c.get.ensures ∙ sym (map-append rows_of_pair (take place pairs) (get_or pairs place (0, []) ∷ []))
-        ∙ ap (map rows_of_pair) (sym (take_more pairs place (0, []) lt)) in
+    ap (λ (p : ℕ × List ℕ). before ++ rows_of_pair p ∷ []) c.get.ensures ∙ sym (map-append rows_of_pair (take place pairs) (get_or pairs place (0, []) ∷ []))
+    ∙ ap (map rows_of_pair) (sym (take_more pairs place (0, []) lt)) in
     let made : numbered (length before) rows c.loop-place.numbers ≡ c.number_group.new.numbers = ap (λ n. numbered n rows c.loop-place.numbers) long ∙ sym c.number_group.ensures in
     subst (λ (ls : List (List ℕ)). AreNumbered (length c.args.numbers.now) ls c.number_group.new.numbers) lists
     (subst (λ (ns : List ℕ). AreNumbered (length c.args.numbers.now) (before ++ rows ∷ []) ns) made more)

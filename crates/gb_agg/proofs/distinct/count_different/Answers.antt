@@ -21,10 +21,10 @@ loop-place-preserved g c =
     let row = c.row_at.result in
     let lt : place < length rows = omega (arith, c.loop-place-test.true, c.count-place-end.ensures) in
     let is : get_or (numbers_at numbers rows) place 0 ≡ get_or numbers row 0 =
-        get_or-map (λ row. get_or numbers row 0) rows place 0 0 lt ∙ ap (λ r. get_or numbers r 0) (sym c.row_at.ensures) in
+    get_or-map (λ row. get_or numbers row 0) rows place 0 0 lt ∙ ap (λ r. get_or numbers r 0) (sym c.row_at.ensures) in
     let known : get_or numbers row 0 < length c.loop-place.seen =
-        let inside = c.requires.known row 0 (omega (arith, c.requires.rows.below place 0 lt, c.row_at.ensures)) in
-        omega (arith, inside, c.loop-place.auto.seen) in
+    let inside = c.requires.known row 0 (omega (arith, c.requires.rows.below place 0 lt, c.row_at.ensures)) in
+    omega (arith, inside, c.loop-place.auto.seen) in
     let are = c.loop-place.invariant.are in
     elim c.if-seen-number.branch [
       | then-seen-number w ↦

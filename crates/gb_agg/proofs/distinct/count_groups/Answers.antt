@@ -1,4 +1,4 @@
-use Rattle.std.proofs.Common.{◌∙◌, ◌<◌, ℕ, [], arith, length}
+use Rattle.std.proofs.Common.{◌∙◌, ◌<◌, [], arith, length}
 use Rattle.std.proofs.lemmas.List.{get_or_default}
 use Rattle.gb_defs.specs.Groups.{AreMembers}
 use Rattle.gb_groups.specs.GroupsIndicator.{pair_of}

@@ -24,8 +24,8 @@ loop-place-preserved c =
     let more = rows_of_pair (pair_of c.get.result) in
     let lt : place < length pairs = omega (arith, c.loop-place-test.true, c.len-place-end.ensures) in
     let lists : map rows_of_pair (take (place + 1) pairs) ≡ before ++ more ∷ [] =
-        ap (map rows_of_pair) (take_more pairs place (0, []) lt) ∙ map-append rows_of_pair (take place pairs) (get_or pairs place (0, []) ∷ [])
-        ∙ ap (λ (p : ℕ × List ℕ). before ++ rows_of_pair p ∷ []) (sym c.get.ensures) in
+    ap (map rows_of_pair) (take_more pairs place (0, []) lt) ∙ map-append rows_of_pair (take place pairs) (get_or pairs place (0, []) ∷ [])
+    ∙ ap (λ (p : ℕ × List ℕ). before ++ rows_of_pair p ∷ []) (sym c.get.ensures) in
     let last = c.len-in-loop-place.ensures ∙ c.push_group.new.rows.ok.0 in
     listed_more before _ more c.loop-place.rows.items _ c.loop-place.ends.items _ c.loop-place.invariant lists c.in_ok-push_group.ensures
     (c.in_ok-push.ensures.items ∙ ap (λ n. c.loop-place.ends.items ++ n ∷ []) last)

@@ -1,6 +1,6 @@
 use Rattle.std.proofs.Common.{◌∙◌, ◌<◌, ℕ, All, List, ap, length, subst, sym}
 use Rattle.std.proofs.lemmas.Result.{IfOk-weaker}
-use Rattle.gb_defs.specs.Column.{ColumnValue, taken}
+use Rattle.gb_defs.specs.Column.{taken}
 use Rattle.gb_defs.specs.Groups.{lists_in}
 use Rattle.gb_series.specs.Rows.{lists_of}
 use Rattle.gb_series.specs.Series.{value_of}
@@ -23,8 +23,8 @@ returns-clause-ok c =
     let rows = c.in_ok-rows.rows.items in
     let ends = c.in_ok-rows.ends.items in
     let made =
-        c.in_ok-lists.ensures.ok
-        ∙ ap (λ n. lists_of n ends (value_of c.in_ok-items.items)) (c.in_ok-name.ensures.ok ∙ c.name.ensures)
-        ∙ ap (lists_of column.name ends) (c.in_ok-items.ensures.ok ∙ ap (λ (rs : List ℕ). taken rs column) c.deref.ensures.value)
-        ∙ slots_listed column (lists_in (part_of c.args.groups.now)) rows ends c.in_ok-rows.ensures in
+    c.in_ok-lists.ensures.ok
+    ∙ ap (λ n. lists_of n ends (value_of c.in_ok-items.items)) (c.in_ok-name.ensures.ok ∙ c.name.ensures)
+    ∙ ap (lists_of column.name ends) (c.in_ok-items.ensures.ok ∙ ap (λ (rs : List ℕ). taken rs column) c.deref.ensures.value)
+    ∙ slots_listed column (lists_in (part_of c.args.groups.now)) rows ends c.in_ok-rows.ensures in
     IfOk-weaker c.from_lists.result _ _ (λ s e. e ∙ made) c.from_lists.ensures.ok
