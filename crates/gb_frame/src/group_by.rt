@@ -1,34 +1,20 @@
 //! A frame whose rows are in groups: what is made of it between the grouping and the aggregates.
 
-ghost use Rattle.std.specs.Prelude.{◌≡◌, ◌∷◌, [], map, None, Some, IfErr, IfOk, OnOk, option_map, true};
-ghost use Rattle.gb_defs.specs.Fold.{Count, First, Groups, Implode, Last, Max, Min, NUnique, Sum};
-ghost use Rattle.std.specs.List.{list_any};
-ghost use Rattle.std.specs.Str.{bytes_eq};
-ghost use Rattle.gb_agg.specs.Method.{method_of};
-ghost use Rattle.gb_defs.specs.Column.{content, first_repeated, names_of as frame_names, taken};
-ghost use Rattle.gb_defs.specs.Fault.{duplicate_of};
-ghost use Rattle.gb_base.specs.PlSmallStr.{IsNoMemory, name_of};
-ghost use Rattle.gb_base.specs.PolarsError.{Explains};
 ghost use Rattle.gb_groups.specs.GroupsType.{groups_of};
 ghost use Rattle.gb_rows.specs.Lent.{keys_in};
-ghost use Rattle.gb_frame.specs.Agg.{aggs_of, names_of};
-ghost use Rattle.gb_frame.specs.Grouping.{contents_of, firsts_in};
-ghost use Rattle.gb_frame.specs.GroupBy.{IsGroupedBy, IsGrouping, chosen, each_by, names_fault};
+ghost use Rattle.gb_frame.specs.Grouping.{IsGrouping};
 
 use crate::agg::Agg;
-use crate::group_frame::{aggregates, check_columns, check_height, find_keys, key_groups, keys_at};
+use crate::group_frame::{aggregates, check_columns, first_rows, keys_at};
+use crate::selection::{named_aggs, other_aggs};
 use gb_agg::method::GroupByMethod;
-use gb_base::error::{PolarsError, PolarsResult};
-use gb_base::memory::FreeGate;
-use gb_base::nullable_idx::IdxSize;
+use gb_base::error::PolarsResult;
 use gb_base::pool::Pool;
 use gb_base::small_str::PlSmallStr;
-use gb_cols::series_trait::SeriesTrait;
 use gb_groups::groups_type::GroupsType;
 use gb_series::frame::DataFrame;
 use gb_series::series::Series;
-use std::alloc::{AllocError, Global};
-use std::collections::HashSet;
+use std::alloc::Global;
 use std::thread::Threads;
 
 /// The rows of a frame in groups, by columns of it.
@@ -41,73 +27,31 @@ pub struct GroupBy<'a> {
     ghost grouped: { IsGrouping frame.now (keys_in keys.items) (groups_of groups) },
 }
 
-/// The rows of a frame that agree in each of the columns of these names: null alone agrees with null. The groups
-/// come in the order of their first rows, and are found by as many workers as the pool has.
-pub fn group_by_stable<'a, R: Threads + Sync>(
-    rt: &R,
-    alloc: Global,
-    frame: &'a DataFrame,
-    by: &[PlSmallStr],
-    pool: &Pool,
-) -> PolarsResult<GroupBy<'a>>
-    ensures ok { IfOk result (IsGroupedBy frame.now (names_of by.now)) }
-    ensures fits { OnOk result (names_fault frame.now (names_of by.now) ≡ None) }
-    ensures err { IfErr result (λ e. Explains e (names_fault frame.now (names_of by.now))) }
-{
-    if by.is_empty() {
-        return Err(PolarsError::ComputeError);
-    }
-    let keys = find_keys(alloc, frame, by)?;
-    check_names(alloc, by)?;
-    check_height(frame.height())?;
-    let (groups, _) = key_groups(rt, &keys, pool, &FreeGate)?;
-    Ok(GroupBy {
-        frame,
-        keys,
-        groups,
-        selected: None,
-    })
-}
+impl<'a> GroupBy<'a> {
+    ghost use Rattle.std.specs.Prelude.{◌≡◌, ◌∷◌, [], map, None, Some, IfErr, IfOk, true};
+    ghost use Rattle.gb_defs.specs.Column.{content, taken};
+    ghost use Rattle.gb_defs.specs.Fold.{Count, First, Groups, Implode, Last, Max, Min, NUnique, Sum};
+    ghost use Rattle.gb_base.specs.PlSmallStr.{IsNoMemory};
+    ghost use Rattle.gb_agg.specs.Method.{method_of};
+    ghost use Rattle.gb_frame.specs.Agg.{aggs_of, names_of};
+    ghost use Rattle.gb_frame.specs.GroupBy.{Answers, each_of, frame_of, grouping_of, keys_of, selected_of};
+    ghost use Rattle.gb_frame.specs.Grouping.{contents_of, firsts_in};
 
-// That no name stands twice.
-fn check_names(alloc: Global, names: &[PlSmallStr]) -> PolarsResult<()>
-    ensures ok { OnOk result (first_repeated (names_of names.now) ≡ None) }
-    ensures err { IfErr result (λ e. Explains e (duplicate_of (first_repeated (names_of names.now)))) }
-{
-    match repeated(alloc, names)? {
-        Some(name) => Err(PolarsError::Duplicate(name.try_clone()?)),
-        None => Ok(()),
-    }
-}
-
-// The first of the names that stood before.
-fn repeated(alloc: Global, names: &[PlSmallStr]) -> PolarsResult<Option<&PlSmallStr>>
-    ensures ok { let first = first_repeated (names_of names.now) in
-        IfOk result (λ name. option_map (λ n. name_of n.now) name ≡ first) }
-    ensures err { IfErr result IsNoMemory }
-{
-    let mut seen: HashSet<&str> = HashSet::new(alloc);
-    for name in names {
-        if !seen.insert(name.as_str())? {
-            return Ok(Some(name));
+    /// The rows of a frame in these groups, by these keys, with no column selected.
+    pub fn new(frame: &'a DataFrame, keys: Vec<&'a Series>, groups: GroupsType) -> GroupBy<'a>
+        requires { IsGrouping frame.now (keys_in keys.items) (groups_of groups) }
+        ensures frame { frame_of result ≡ frame.now }
+        ensures keys { keys_of result ≡ keys_in keys.entry.items }
+        ensures groups { grouping_of result ≡ groups_of groups }
+        ensures selected { selected_of result ≡ None }
+    {
+        GroupBy {
+            frame,
+            keys,
+            groups,
+            selected: None,
         }
     }
-    Ok(None)
-}
-
-// The first row of each group.
-fn first_rows(alloc: Global, groups: &GroupsType) -> Result<Vec<IdxSize>, AllocError>
-    ensures { IfOk result (λ rows. rows.items ≡ firsts_in (groups_of groups.now)) }
-{
-    let mut rows = Vec::with_capacity(alloc, groups.len())?;
-    for place in 0..groups.len() {
-        rows.push(groups.get(place).first())?;
-    }
-    Ok(rows)
-}
-
-impl<'a> GroupBy<'a> {
-    ghost use Rattle.gb_frame.specs.GroupBy.{Answers, each_of, frame_of, grouping_of, keys_of, selected_of};
 
     /// The frame that is grouped.
     pub fn df(&self) -> &'a DataFrame
@@ -123,16 +67,16 @@ impl<'a> GroupBy<'a> {
     }
 
     pub fn take_groups(self) -> GroupsType
-        ensures { groups_of result ≡ grouping_of self }
+        ensures { groups_of result ≡ grouping_of self.entry }
     {
         self.groups
     }
 
     /// With the columns of these names to aggregate, in place of those that were.
     pub fn select(self, selection: Vec<PlSmallStr>) -> GroupBy<'a>
-        ensures frame { frame_of result ≡ frame_of self }
-        ensures keys { keys_of result ≡ keys_of self }
-        ensures groups { grouping_of result ≡ grouping_of self }
+        ensures frame { frame_of result ≡ frame_of self.entry }
+        ensures keys { keys_of result ≡ keys_of self.entry }
+        ensures groups { grouping_of result ≡ grouping_of self.entry }
         ensures selected { selected_of result ≡ Some (names_of selection.items) }
     {
         GroupBy {
@@ -309,55 +253,4 @@ impl<'a> GroupBy<'a> {
         })?;
         self.agg(rt, alloc, &aggs, pool)
     }
-}
-
-// A method of the columns of these names.
-fn named_aggs(
-    alloc: Global,
-    names: &[PlSmallStr],
-    method: GroupByMethod,
-) -> PolarsResult<Vec<Agg>>
-    ensures ok { IfOk result (λ aggs.
-        aggs_of aggs.items ≡ each_by (method_of method) (names_of names.now)) }
-    ensures err { IfErr result IsNoMemory }
-{
-    let mut aggs = Vec::with_capacity(alloc, names.len())?;
-    for name in names {
-        let column = name.try_clone()?;
-        aggs.push(Agg { column, method })?;
-    }
-    Ok(aggs)
-}
-
-// A method of the columns whose name is no key's.
-fn other_aggs(
-    alloc: Global,
-    frame: &DataFrame,
-    keys: &[&Series],
-    method: GroupByMethod,
-) -> PolarsResult<Vec<Agg>>
-    ensures ok { let names = chosen frame.now (keys_in keys.now) None in IfOk result (λ aggs.
-        aggs_of aggs.items ≡ each_by (method_of method) names) }
-    ensures err { IfErr result IsNoMemory }
-{
-    let mut aggs = Vec::new(alloc);
-    for column in frame.get_columns() {
-        if !is_key(keys, column.name().as_str()) {
-            let column = column.name().try_clone()?;
-            aggs.push(Agg { column, method })?;
-        }
-    }
-    Ok(aggs)
-}
-
-// Whether a key has this name.
-fn is_key(keys: &[&Series], name: &str) -> bool
-    ensures { result ≡ list_any (bytes_eq name.now) (frame_names (keys_in keys.now)) }
-{
-    for key in keys {
-        if key.name().as_str() == name {
-            return true;
-        }
-    }
-    false
 }

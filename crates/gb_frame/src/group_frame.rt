@@ -39,7 +39,7 @@ use gb_paths::path::Path;
 use gb_paths::trace::Trace;
 use gb_series::frame::DataFrame;
 use gb_series::series::Series;
-use std::alloc::Global;
+use std::alloc::{AllocError, Global};
 use std::thread::Threads;
 
 /// The keys at the first row of each group, and the aggregates over its rows; beside them, how the rows were
@@ -200,7 +200,11 @@ fn answer_columns<R: Threads + Sync>(
 }
 
 // The keys at some rows.
-pub(crate) fn keys_at(alloc: Global, keys: &[&Series], rows: &[IdxSize]) -> PolarsResult<Vec<Series>>
+pub(crate) fn keys_at(
+    alloc: Global,
+    keys: &[&Series],
+    rows: &[IdxSize],
+) -> PolarsResult<Vec<Series>>
     requires { All (HasRows rows.now) (keys_in keys.now) }
     ensures ok { let taken = map (λ key. content (taken rows.now key)) (keys_in keys.now) in
         IfOk result (λ columns. contents_of columns.items ≡ taken) }
@@ -289,4 +293,15 @@ fn found_aggregate<R: Threads + Sync>(
     let mut folded = aggregate_all(rt, alloc, column, agg.method, groups, pool)?;
     folded.rename(fmt_group_by_column(alloc, name, agg.method)?);
     Ok(folded)
+}
+
+// The first row of each group.
+pub(crate) fn first_rows(alloc: Global, groups: &GroupsType) -> Result<Vec<IdxSize>, AllocError>
+    ensures { IfOk result (λ rows. rows.items ≡ firsts_in (groups_of groups.now)) }
+{
+    let mut rows = Vec::with_capacity(alloc, groups.len())?;
+    for place in 0..groups.len() {
+        rows.push(groups.get(place).first())?;
+    }
+    Ok(rows)
 }

@@ -2,5 +2,7 @@
 #![tactic(auto)]
 
 pub mod agg;
+pub mod by_names;
 pub mod group_by;
 pub mod group_frame;
+mod selection;

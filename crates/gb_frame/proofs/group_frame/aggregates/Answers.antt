@@ -1,4 +1,4 @@
-use Rattle.std.proofs.Common.{◌≡◌, ◌∙◌, ap, sym, subst, List, [], ◌∷◌, arith}
+use Rattle.std.proofs.Common.{◌∙◌, ap, sym, subst, List, [], ◌∷◌, arith}
 use Rattle.std.proofs.lemmas.List.{take_all, map-append}
 use Rattle.std.proofs.lemmas.Result.{err_from_is_err_and}
 use Rattle.gb_defs.specs.Column.{content}
