@@ -1,8 +1,4 @@
-pub mod AggLemmas
-pub mod CauseLemmas
 pub mod CutLemmas
-pub mod GroupingLemmas
-pub mod PartLemmas
 pub mod ReportLemmas
 pub mod RunLemmas
 pub mod TraceLemmas

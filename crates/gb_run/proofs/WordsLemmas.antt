@@ -1,19 +1,15 @@
 -- The words of a command line: a method before its colon, a number in its range, and options from the front.
-use Rattle.std.proofs.Common.{◌≡◌, ◌==◌, ◌≤◌, ◌<◌, ◌^◌, ℕ, Bool, true, false, not, ◌&&◌, List, [], ◌∷◌, map, length, drop, eqb, leb, Option, Some, None, Result, Ok, Err, Bor, codes, refl, sym, ap, ◌∙◌, arith}
+use Rattle.std.proofs.Common.{◌≡◌, ◌==◌, ◌≤◌, ◌<◌, ◌^◌, ℕ, Bool, true, false, not, ◌&&◌, List, [], ◌∷◌, map, length, leb, Option, Some, None, Result, Ok, Err, codes, refl, sym, ap, ◌∙◌, arith}
 use Rattle.std.specs.Prelude.{option_and_then}
 use Rattle.std.specs.Char.{is_ascii_digit}
-use Rattle.std.specs.Option.{MatchOption}
 use Rattle.std.specs.Result.{result_ok}
 use Rattle.std.specs.Str.{all_ascii_digits, bytes_eq}
 use Rattle.std.specs.Str.Parse.{ParsesUnsigned, digits_value}
-use Rattle.std.specs.Str.Pattern.{FindsTextPrefix, StripsPrefix}
-use Rattle.std.specs.List.{starts_with, list_all}
+use Rattle.std.specs.List.{list_all}
 use Rattle.std.proofs.lemmas.Bool.{leb-true, le-leb, and_parts, and_from, false_from_ne_true, not_from_false}
 use Rattle.std.proofs.lemmas.Str.Parse.{parse_digits, parse_gives}
-use Rattle.std.proofs.lemmas.Str.Pattern.{starts_text}
 use Rattle.gb_defs.specs.Cell.{is_numeral}
-use Rattle.gb_defs.specs.Fold.{Sum, Count}
-use Rattle.gb_defs.specs.Request.{Given, agg_of, given_from, group_of, nothing, number_within, request, with_explain, with_option}
+use Rattle.gb_defs.specs.Request.{Given, given_from, group_of, nothing, number_within, request, with_explain, with_option}
 use Rattle.gb_numbers.proofs.DigitLemmas.{digits_model, numeral_tells}
 
 -- ---- a number within a range

@@ -1,4 +1,3 @@
-pub mod Grouping
 pub mod Request
 pub mod Run
 pub mod Words

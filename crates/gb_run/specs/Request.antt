@@ -4,26 +4,17 @@ use Rattle.gb_defs.specs.Fold as fold
 use Rattle.gb_defs.specs.Request as asked
 use Rattle.gb_base.specs.PlSmallStr.{name_of}
 use Rattle.gb_base.specs.declared.small_str.PlSmallStr.{PlSmallStr}
-use Rattle.gb_agg.specs.Method.{method_of}
-use Rattle.gb_run.specs.declared.words.Agg.{Agg}
+use Rattle.gb_frame.specs.Agg.{aggs_of, names_of}
+use Rattle.gb_frame.specs.declared.agg.Agg.{Agg}
 use Rattle.gb_run.specs.declared.words.ToolOptions.{ToolOptions}
 use Rattle.gb_run.specs.declared.words.Request.{Request}
 use Rattle.gb_run.specs.declared.words.Request.TheVariants.{Group}
-
-abbrev pub agg_of : Agg → List ℕ × fold.Method
-agg_of agg = (name_of agg.column, method_of agg.method)
-
-abbrev pub aggs_of : List Agg → List (List ℕ × fold.Method)
-aggs_of aggs = map agg_of aggs
 
 abbrev pub options_of : ToolOptions → asked.ToolOptions
 options_of o = record { workers = o.workers; partitions = o.partitions; piece = o.piece; threshold = o.threshold; seed = o.seed; null_word = name_of o.null_word; explain = o.explain }
 
 abbrev pub request_of : Request → asked.Request
 request_of (Group by aggs options) = asked.Group (map name_of by.items) (aggs_of aggs.items) (options_of options)
-
-abbrev pub names_of : List PlSmallStr → List (List ℕ)
-names_of names = map name_of names
 
 -- a grouping by some keys
 abbrev pub group_by : List PlSmallStr → List Agg → ToolOptions → asked.Request

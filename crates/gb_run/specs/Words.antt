@@ -2,7 +2,7 @@
 use Rattle.std.specs.Prelude.{map, option_map}
 use Rattle.gb_defs.specs.Request as asked
 use Rattle.gb_base.specs.PlSmallStr.{name_of}
-use Rattle.gb_run.specs.Request.{aggs_of}
+use Rattle.gb_frame.specs.Agg.{aggs_of}
 use Rattle.gb_run.specs.declared.words.Given.{Given}
 use Rattle.gb_run.specs.declared.words.Numbers.{Numbers}
 

@@ -2,7 +2,6 @@
 //! and writes the grouped table. `run` is its top call, and carries the theorem of what the program does.
 #![tactic(auto)]
 
-mod grouping;
 pub mod limits;
 mod report;
 pub mod run;

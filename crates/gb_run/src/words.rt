@@ -7,20 +7,15 @@ ghost use Rattle.std.specs.String.{string_bytes};
 ghost use Rattle.gb_defs.specs.Request as asked;
 ghost use Rattle.gb_base.specs.PlSmallStr.{IsNoMemory, name_of};
 ghost use Rattle.gb_agg.specs.Method.{method_of};
+ghost use Rattle.gb_frame.specs.Agg as framed;
 ghost use Rattle.gb_run.specs.Request as made;
 ghost use Rattle.gb_run.specs.Words.{given_of, numbers_of};
 
 use gb_agg::method::GroupByMethod;
 use gb_base::error::PolarsResult;
 use gb_base::small_str::PlSmallStr;
+use gb_frame::agg::Agg;
 use std::alloc::Global;
-
-/// A method and the column that it is asked of.
-#[derive(Drop)]
-pub struct Agg {
-    pub column: PlSmallStr,
-    pub method: GroupByMethod,
-}
 
 /// How the work is spread, and the null word. An option that the words do not give has its default.
 #[derive(Drop)]
@@ -130,7 +125,7 @@ pub struct Given {
 }
 
 fn new_agg(alloc: Global, column: &str, method: GroupByMethod) -> PolarsResult<Agg>
-    ensures ok { IfOk result (λ agg. made.agg_of agg ≡ (column.now, method_of method)) }
+    ensures ok { IfOk result (λ agg. framed.agg_of agg ≡ (column.now, method_of method)) }
     ensures err { IfErr result IsNoMemory }
 {
     Ok(Agg {
@@ -176,7 +171,7 @@ fn cut_agg(word: &str) -> Option<(&str, GroupByMethod)>
 
 // The aggregate that METHOD:NAME asks.
 fn agg_of(alloc: Global, word: &str) -> PolarsResult<Option<Agg>>
-    ensures ok { IfOk result (λ o. option_map made.agg_of o ≡ asked.agg_of word.now) }
+    ensures ok { IfOk result (λ o. option_map framed.agg_of o ≡ asked.agg_of word.now) }
     ensures err { IfErr result IsNoMemory }
 {
     match cut_agg(word) {

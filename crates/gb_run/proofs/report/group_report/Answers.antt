@@ -8,7 +8,8 @@ use Rattle.gb_defs.specs.Outcome.{outcome}
 use Rattle.gb_base.specs.PlSmallStr.{name_of}
 use Rattle.gb_paths.specs.Tuples.{trace_value}
 use Rattle.gb_text.specs.Asked.{asked_table}
-use Rattle.gb_run.specs.Request.{aggs_of, asked_names, group_by, names_of, options_of}
+use Rattle.gb_frame.specs.Agg.{aggs_of, names_of}
+use Rattle.gb_run.specs.Request.{asked_names, group_by, options_of}
 use Rattle.gb_run.specs.Run.{IsAnswerTo, IsRefusedReport}
 use Rattle.gb_run.proofs.ReportLemmas.{bad_group, good_report, read_map, refused_frame, refused_table}
 use Rattle.gb_run.proofs.TraceLemmas.{line_is, traced_in}

@@ -1,0 +1,5 @@
+pub mod AggLemmas
+pub mod CauseLemmas
+pub mod GroupByLemmas
+pub mod GroupingLemmas
+pub mod PartLemmas

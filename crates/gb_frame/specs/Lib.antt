@@ -1,0 +1,4 @@
+pub mod Agg
+pub mod GroupBy
+pub mod Grouping
+pub mod Refusals

@@ -1,0 +1,256 @@
+//! A frame whose rows are in groups: what is made of it between the grouping and the aggregates.
+
+ghost use Rattle.gb_groups.specs.GroupsType.{groups_of};
+ghost use Rattle.gb_rows.specs.Lent.{keys_in};
+ghost use Rattle.gb_frame.specs.Grouping.{IsGrouping};
+
+use crate::agg::Agg;
+use crate::group_frame::{aggregates, check_columns, first_rows, keys_at};
+use crate::selection::{named_aggs, other_aggs};
+use gb_agg::method::GroupByMethod;
+use gb_base::error::PolarsResult;
+use gb_base::pool::Pool;
+use gb_base::small_str::PlSmallStr;
+use gb_groups::groups_type::GroupsType;
+use gb_series::frame::DataFrame;
+use gb_series::series::Series;
+use std::alloc::Global;
+use std::thread::Threads;
+
+/// The rows of a frame in groups, by columns of it.
+#[derive(Drop)]
+pub struct GroupBy<'a> {
+    frame: &'a DataFrame,
+    keys: Vec<&'a Series>,
+    groups: GroupsType,
+    selected: Option<Vec<PlSmallStr>>,
+    ghost grouped: { IsGrouping frame.now (keys_in keys.items) (groups_of groups) },
+}
+
+impl<'a> GroupBy<'a> {
+    ghost use Rattle.std.specs.Prelude.{◌≡◌, ◌∷◌, [], map, None, Some, IfErr, IfOk, true};
+    ghost use Rattle.gb_defs.specs.Column.{content, taken};
+    ghost use Rattle.gb_defs.specs.Fold.{Count, First, Groups, Implode, Last, Max, Min, NUnique, Sum};
+    ghost use Rattle.gb_base.specs.PlSmallStr.{IsNoMemory};
+    ghost use Rattle.gb_agg.specs.Method.{method_of};
+    ghost use Rattle.gb_frame.specs.Agg.{aggs_of, names_of};
+    ghost use Rattle.gb_frame.specs.GroupBy.{Answers, each_of, frame_of, grouping_of, keys_of, selected_of};
+    ghost use Rattle.gb_frame.specs.Grouping.{contents_of, firsts_in};
+
+    /// The rows of a frame in these groups, by these keys, with no column selected.
+    pub fn new(frame: &'a DataFrame, keys: Vec<&'a Series>, groups: GroupsType) -> GroupBy<'a>
+        requires { IsGrouping frame.now (keys_in keys.items) (groups_of groups) }
+        ensures frame { frame_of result ≡ frame.now }
+        ensures keys { keys_of result ≡ keys_in keys.entry.items }
+        ensures groups { grouping_of result ≡ groups_of groups }
+        ensures selected { selected_of result ≡ None }
+    {
+        GroupBy {
+            frame,
+            keys,
+            groups,
+            selected: None,
+        }
+    }
+
+    /// The frame that is grouped.
+    pub fn df(&self) -> &'a DataFrame
+        ensures { result.now ≡ frame_of self.now }
+    {
+        self.frame
+    }
+
+    pub fn get_groups(&self) -> &GroupsType
+        ensures { groups_of result.now ≡ grouping_of self.now }
+    {
+        &self.groups
+    }
+
+    pub fn take_groups(self) -> GroupsType
+        ensures { groups_of result ≡ grouping_of self.entry }
+    {
+        self.groups
+    }
+
+    /// With the columns of these names to aggregate, in place of those that were.
+    pub fn select(self, selection: Vec<PlSmallStr>) -> GroupBy<'a>
+        ensures frame { frame_of result ≡ frame_of self.entry }
+        ensures keys { keys_of result ≡ keys_of self.entry }
+        ensures groups { grouping_of result ≡ grouping_of self.entry }
+        ensures selected { selected_of result ≡ Some (names_of selection.items) }
+    {
+        GroupBy {
+            frame: self.frame,
+            keys: self.keys,
+            groups: self.groups,
+            selected: Some(selection),
+        }
+    }
+
+    /// The keys at the first row of each group.
+    pub fn keys(&self, alloc: Global) -> PolarsResult<Vec<Series>>
+        ensures ok { let rows = firsts_in (grouping_of self.now) in IfOk result (λ columns.
+            contents_of columns.items ≡ map (λ key. content (taken rows key)) (keys_of self.now)) }
+        ensures err { IfErr result IsNoMemory }
+    {
+        let rows = first_rows(alloc, &self.groups)?;
+        keys_at(alloc, &self.keys, &rows)
+    }
+
+    /// The keys, and these aggregates over the rows of each group.
+    pub fn agg<R: Threads + Sync>(
+        &self,
+        rt: &R,
+        alloc: Global,
+        aggs: &[Agg],
+        pool: &Pool,
+    ) -> PolarsResult<DataFrame>
+        ensures { Answers self.now (aggs_of aggs.now) result }
+    {
+        check_columns(self.frame, aggs)?;
+        let mut folded = aggregates(rt, alloc, self.frame, aggs, &self.groups, pool)?;
+        let mut columns = self.keys(alloc)?;
+        columns.append(&mut folded)?;
+        DataFrame::new(columns)
+    }
+
+    /// The keys, and an aggregate of each column that is chosen: of those selected, or else of all whose name is no
+    /// key's.
+    pub fn each<R: Threads + Sync>(
+        &self,
+        rt: &R,
+        alloc: Global,
+        method: GroupByMethod,
+        pool: &Pool,
+    ) -> PolarsResult<DataFrame>
+        ensures { Answers self.now (each_of self.now (method_of method)) result }
+    {
+        let aggs = self.aggs_by(alloc, method)?;
+        self.agg(rt, alloc, &aggs, pool)
+    }
+
+    // One method of each column that is chosen.
+    fn aggs_by(&self, alloc: Global, method: GroupByMethod) -> PolarsResult<Vec<Agg>>
+        ensures ok { IfOk result (λ aggs. aggs_of aggs.items ≡ each_of self.now (method_of method)) }
+        ensures err { IfErr result IsNoMemory }
+    {
+        match &self.selected {
+            Some(names) => named_aggs(alloc, names, method),
+            None => other_aggs(alloc, self.frame, &self.keys, method),
+        }
+    }
+
+    /// The sums of each column that is chosen, behind the keys.
+    pub fn sum<R: Threads + Sync>(
+        &self,
+        rt: &R,
+        alloc: Global,
+        pool: &Pool,
+    ) -> PolarsResult<DataFrame>
+        ensures { Answers self.now (each_of self.now Sum) result }
+    {
+        self.each(rt, alloc, GroupByMethod::Sum, pool)
+    }
+
+    /// The least valid slots of each column that is chosen, behind the keys.
+    pub fn min<R: Threads + Sync>(
+        &self,
+        rt: &R,
+        alloc: Global,
+        pool: &Pool,
+    ) -> PolarsResult<DataFrame>
+        ensures { Answers self.now (each_of self.now Min) result }
+    {
+        self.each(rt, alloc, GroupByMethod::Min, pool)
+    }
+
+    /// The greatest valid slots of each column that is chosen, behind the keys.
+    pub fn max<R: Threads + Sync>(
+        &self,
+        rt: &R,
+        alloc: Global,
+        pool: &Pool,
+    ) -> PolarsResult<DataFrame>
+        ensures { Answers self.now (each_of self.now Max) result }
+    {
+        self.each(rt, alloc, GroupByMethod::Max, pool)
+    }
+
+    /// The slots at the first rows of each column that is chosen, behind the keys.
+    pub fn first<R: Threads + Sync>(
+        &self,
+        rt: &R,
+        alloc: Global,
+        pool: &Pool,
+    ) -> PolarsResult<DataFrame>
+        ensures { Answers self.now (each_of self.now First) result }
+    {
+        self.each(rt, alloc, GroupByMethod::First, pool)
+    }
+
+    /// The slots at the last rows of each column that is chosen, behind the keys.
+    pub fn last<R: Threads + Sync>(
+        &self,
+        rt: &R,
+        alloc: Global,
+        pool: &Pool,
+    ) -> PolarsResult<DataFrame>
+        ensures { Answers self.now (each_of self.now Last) result }
+    {
+        self.each(rt, alloc, GroupByMethod::Last, pool)
+    }
+
+    /// How many slots differ of each column that is chosen, behind the keys.
+    pub fn n_unique<R: Threads + Sync>(
+        &self,
+        rt: &R,
+        alloc: Global,
+        pool: &Pool,
+    ) -> PolarsResult<DataFrame>
+        ensures { Answers self.now (each_of self.now NUnique) result }
+    {
+        self.each(rt, alloc, GroupByMethod::NUnique, pool)
+    }
+
+    /// The slots as lists of each column that is chosen, behind the keys.
+    pub fn agg_list<R: Threads + Sync>(
+        &self,
+        rt: &R,
+        alloc: Global,
+        pool: &Pool,
+    ) -> PolarsResult<DataFrame>
+        ensures { Answers self.now (each_of self.now Implode) result }
+    {
+        self.each(rt, alloc, GroupByMethod::Implode, pool)
+    }
+
+    /// The number of rows for each column that is chosen, behind the keys.
+    pub fn count<R: Threads + Sync>(
+        &self,
+        rt: &R,
+        alloc: Global,
+        pool: &Pool,
+    ) -> PolarsResult<DataFrame>
+        ensures { Answers self.now (each_of self.now (Count true)) result }
+    {
+        let include_nulls = true;
+        self.each(rt, alloc, GroupByMethod::Count { include_nulls }, pool)
+    }
+
+    /// The row numbers as lists, in one column `groups` behind the keys.
+    pub fn groups<R: Threads + Sync>(
+        &self,
+        rt: &R,
+        alloc: Global,
+        pool: &Pool,
+    ) -> PolarsResult<DataFrame>
+        ensures { Answers self.now (([], Groups) ∷ []) result }
+    {
+        let mut aggs = Vec::with_capacity(alloc, 1)?;
+        aggs.push(Agg {
+            column: PlSmallStr::from_str(alloc, "")?,
+            method: GroupByMethod::Groups,
+        })?;
+        self.agg(rt, alloc, &aggs, pool)
+    }
+}

@@ -1,0 +1,8 @@
+//! Frames grouped by their columns: the keys at the first row of each group, and aggregates over its rows.
+#![tactic(auto)]
+
+pub mod agg;
+pub mod by_names;
+pub mod group_by;
+pub mod group_frame;
+mod selection;
