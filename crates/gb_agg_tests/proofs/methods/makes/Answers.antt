@@ -5,7 +5,7 @@ use Rattle.gb_series.specs.Series.{value_of}
 use Rattle.gb_agg_tests.proofs.methods.makes.Goals as goal
 
 pub aggregate_all-requires-clause-groups : goal.aggregate_all-requires-clause-groups
-aggregate_all-requires-clause-groups g c =
+aggregate_all-requires-clause-groups g c κs within =
     let column = value_of c.in_ok-column.column in
     let groups = groups_of c.in_ok-groups.groups in
     let high : 4 ≡ length column.slots = omega (arith, c.len.ensures.value, c.if-len-ne4.false) in
