@@ -1,5 +1,5 @@
 -- Folds over lists of rows.
-use Rattle.std.specs.Prelude.{◌≡◌, ◌++◌, ℕ, Bool, List, length, map, All, Option, Some, None, if◌then◌else◌}
+use Rattle.std.specs.Prelude.{◌≡◌, ◌++◌, ℕ, Bool, List, length, map, All, Option, Some, None, Result, IfErr, IfOk, OnOk, if◌then◌else◌}
 use Rattle.std.specs.List.{flat_map}
 use Rattle.gb_defs.specs.Slot.{Items, Slot, items_of}
 use Rattle.gb_defs.specs.ColumnType.{ColumnType}
@@ -7,6 +7,8 @@ use Rattle.gb_defs.specs.Column.{ColumnValue, Content, content, fresh_column}
 use Rattle.gb_defs.specs.Fold.{Method, Min, Max, Sum, fold_of, fold_type, number_slot, sum_type}
 use Rattle.gb_defs.specs.Groups.{AreMembers, Grouping, HasRowNumbers, lists_in}
 use Rattle.gb_defs.specs.Fault.{Fault, has_sum, unfit_operation, unfit_or}
+use Rattle.gb_base.specs.PolarsError.{Explains}
+use Rattle.gb_base.specs.declared.error.PolarsError.{PolarsError}
 use Rattle.gb_series.specs.Series.{value_of}
 use Rattle.gb_series.specs.declared.series.Series.{Series}
 use Rattle.gb_agg.specs.Method.{method_of}
@@ -52,6 +54,12 @@ pub record AreGroupsOf (c : ColumnValue) (groups : Grouping) : Type 0 where
 -- the column has the aggregate of the other for each group
 abbrev pub IsAggregateOf : GroupByMethod → ColumnValue → Grouping → Series → Type 0
 IsAggregateOf method c groups s = content (value_of s) ≡ content (folded (method_of method) c (lists_in groups))
+
+-- an aggregate of a column for each group, or why its type has none
+pub record Aggregates (method : GroupByMethod) (c : ColumnValue) (groups : Grouping) (made : Result Series PolarsError) : Type 0 where
+  pub ok : IfOk made (IsAggregateOf method c groups)
+  pub fits : OnOk made (unfit_of (method_of method) c ≡ None)
+  pub err : IfErr made (λ e. Explains e (unfit_of (method_of method) c))
 
 -- the slots of columns, one behind another
 abbrev pub slots_of_parts : List Series → List Slot

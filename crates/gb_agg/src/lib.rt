@@ -14,4 +14,5 @@ pub mod lists;
 pub mod method;
 pub mod number_fold;
 pub mod row_pick;
+pub mod series_agg;
 pub mod slot_fold;

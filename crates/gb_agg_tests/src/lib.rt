@@ -5,3 +5,5 @@
 mod folds;
 #[cfg(test)]
 mod methods;
+#[cfg(test)]
+mod series_agg;

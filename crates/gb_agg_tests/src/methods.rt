@@ -102,7 +102,7 @@ fn makes<R: Threads + Sync>(
 }
 
 // The cell of a row and a slash, behind what is there.
-fn put_cell(column: &Series, row: usize, cells: &mut Vec<u8>) -> PolarsResult<()> {
+pub(crate) fn put_cell(column: &Series, row: usize, cells: &mut Vec<u8>) -> PolarsResult<()> {
     if row < column.len() {
         column.write_cell(row, "-", cells)?;
     }
