@@ -187,7 +187,7 @@ def write_table(path, header, keys):
 
 
 def seconds(tool, words, table, code=0):
-    """The least of three runs over a table, or so long as one was waited for."""
+    """The least of three runs over a table, or PATIENCE where one takes longer."""
     least = PATIENCE
     for _ in range(3):
         with open(table, "rb") as source:
@@ -209,9 +209,9 @@ def said(took, amount):
 
 
 def keys_table(tool, rows, workers, folder, draw):
-    """Crafted keys beside keys by chance, and beside a tenth of as many crafted ones."""
-    print("| keys | rows | workers | crafted, s | by chance, s | crafted over chance | over a tenth of the rows |")
-    print("|---|---:|---:|---:|---:|---:|---:|")
+    """Crafted keys beside keys by chance, and each beside a tenth of as many."""
+    print("| keys | rows | workers | crafted, s | by chance, s | ratio | crafted over a tenth | chance over a tenth |")
+    print("|---|---:|---:|---:|---:|---:|---:|---:|")
     crafted, chance = os.path.join(folder, "crafted.csv"), os.path.join(folder, "chance.csv")
     earlier = {}
     for count in rows:
@@ -222,11 +222,11 @@ def keys_table(tool, rows, workers, folder, draw):
             for threads in workers:
                 words = ["group", *by, "--agg", "sum:v", "--agg", "n_unique:k", "--workers", str(threads)]
                 took, other = seconds(tool, words, crafted), seconds(tool, words, chance)
-                tenth = earlier.get((name, threads, count // 10))
-                growth = said(took, f"{took / tenth:.1f}") if tenth else ""
-                earlier[name, threads, count] = took
-                cells = f"{said(took, f'{took:.3f}')} | {other:.3f} | {said(took, f'{took / other:.2f}')} | {growth}"
-                print(f"| {name} | {count:,} | {threads} | {cells} |", flush=True)
+                tenth, other_tenth = earlier.get((name, threads, count // 10), (None, None))
+                growth = f"{said(took, f'{took / tenth:.1f}')} | {other / other_tenth:.1f}" if tenth else " | "
+                earlier[name, threads, count] = took, other
+                ratio = f"{said(took, f'{took:.3f}')} | {other:.3f} | {said(took, f'{took / other:.2f}')}"
+                print(f"| {name} | {count:,} | {threads} | {ratio} | {growth} |", flush=True)
 
 
 def wide(count):
