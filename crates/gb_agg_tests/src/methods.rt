@@ -73,7 +73,7 @@ fn categories(alloc: Global, ordering: CategoricalOrdering) -> PolarsResult<Seri
     if texts.len() > 99 {
         return Err(PolarsError::NoMemory);
     }
-    Ok(CategoricalChunked::from_strings(&texts, ordering)?.into_series())
+    Ok(CategoricalChunked::from_strings(&texts, ordering, 7)?.into_series())
 }
 
 // Whether the cells of the aggregate over the four runs, each with a slash behind it, are this text.

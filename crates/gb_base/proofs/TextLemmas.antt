@@ -1,5 +1,5 @@
 -- Lists of texts that differ, and where a text stands among them, also by names that have the texts.
-use Rattle.std.proofs.Common.{Bor, IsTrue, nat_eq, eq-eqb, eqb-true, ◌≡◌, ℕ, suc, ◌+◌, ◌<◌, Bool, false, cond, if◌then◌else◌, List, [], ◌∷◌, ◌++◌, length, take, drop, get_or, map, position, Some, refl, sym, ap, ap₂, subst, ◌∙◌, arith}
+use Rattle.std.proofs.Common.{Bor, IsTrue, nat_eq, eq-eqb, eqb-true, ◌≡◌, ℕ, suc, ◌+◌, ◌<◌, Bool, false, cond, if◌then◌else◌, List, [], ◌∷◌, ◌++◌, length, take, drop, get_or, map, position, Some, refl, sym, ap, ap₂, subst, ◌∙◌}
 use Rattle.std.specs.Str.{bytes_eq}
 use Rattle.std.specs.List.{AllByRecursion, IsDistinct, list_any, position_from}
 use Rattle.std.specs.Cmp.{IsEquivalence, both_ways}

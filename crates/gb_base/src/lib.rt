@@ -10,6 +10,7 @@ pub mod device;
 pub mod error;
 pub mod field;
 pub mod memory;
+pub mod name_set;
 pub mod nullable_idx;
 pub mod pool;
 pub mod rev_mapping;

@@ -51,23 +51,23 @@ impl Eq for RevMapping {
 }
 
 impl RevMapping {
-    /// No texts.
-    pub fn new(alloc: Global) -> RevMapping
+    /// No texts. They are hashed under the seed, of which no code depends.
+    pub fn new(alloc: Global, seed: u64) -> RevMapping
         ensures { result ≡ [] }
     {
         RevMapping {
-            texts: TextTable::new(alloc),
+            texts: TextTable::new(alloc, seed),
         }
     }
 
-    /// These texts, in their order.
-    pub fn build_local(texts: Vec<PlSmallStr>) -> PolarsResult<RevMapping>
+    /// These texts, in their order, hashed under the seed.
+    pub fn build_local(texts: Vec<PlSmallStr>, seed: u64) -> PolarsResult<RevMapping>
         requires differ { IsDistinct bytes_eq (map name_of texts.items) }
         requires few { vec_len texts < 2 ^ 32 }
         ensures ok { IfOk result (λ m. m ≡ map name_of texts.items) }
         ensures err { IfErr result IsNoMemory }
     {
-        let mut map = TextTable::new(*texts.allocator());
+        let mut map = TextTable::new(*texts.allocator(), seed);
         for name in &texts {
             map.number_of(name.as_str())?;
         }

@@ -25,7 +25,7 @@ fn coded(alloc: Global) -> PolarsResult<CategoricalChunked> {
     texts.push(None)?;
     texts.push(Some("x"))?;
     texts.push(Some("y"))?;
-    CategoricalChunked::from_strings(&texts, CategoricalOrdering::Lexical)
+    CategoricalChunked::from_strings(&texts, CategoricalOrdering::Lexical, 7)
 }
 
 // The texts x, y, which come twice, as categories.
@@ -36,7 +36,7 @@ fn built(alloc: Global) -> PolarsResult<CategoricalChunked> {
     if texts.len() > 99 {
         return Err(PolarsError::NoMemory);
     }
-    let mut builder = CategoricalBuilder::new(alloc, name_of(alloc)?, CategoricalOrdering::Lexical);
+    let mut builder = CategoricalBuilder::new(alloc, name_of(alloc)?, CategoricalOrdering::Lexical, 7);
     builder.push_texts(&texts)?;
     if builder.len() > 99 {
         return Err(PolarsError::NoMemory);
@@ -55,7 +55,7 @@ fn takes(builder: &mut CategoricalBuilder, cell: &[u8]) -> PolarsResult<bool> {
 
 // The cells x, null, one that is no text, and x, as categories.
 fn read(alloc: Global) -> PolarsResult<CategoricalChunked> {
-    let mut builder = CategoricalBuilder::new(alloc, name_of(alloc)?, CategoricalOrdering::Lexical);
+    let mut builder = CategoricalBuilder::new(alloc, name_of(alloc)?, CategoricalOrdering::Lexical, 7);
     let texts = takes(&mut builder, b"x")? && takes(&mut builder, b"null")?;
     if !texts || takes(&mut builder, b"\xff")? || !takes(&mut builder, b"x")? {
         return Err(PolarsError::NoMemory);
@@ -166,7 +166,7 @@ fn codes_of_texts(rt: HostRuntime) -> Result<(), Fail> {
 
 // The map of y and x.
 fn mapped(alloc: Global) -> PolarsResult<RevMapping> {
-    let mut map = RevMapping::new(alloc);
+    let mut map = RevMapping::new(alloc, 7);
     map.code_of("y")?;
     map.code_of("x")?;
     Ok(map)
@@ -244,7 +244,7 @@ fn is_built(names: Vec<PlSmallStr>) -> PolarsResult<bool> {
     if names.len() > 9 || !texts_differ(*names.allocator(), &names)? {
         return Ok(false);
     }
-    let map = RevMapping::build_local(names)?;
+    let map = RevMapping::build_local(names, 7)?;
     Ok(map.len() > 1 && map.get(1) == "x" && map.get(0) == "y")
 }
 

@@ -1,9 +1,8 @@
 //! The rows of a frame in groups, by the names of columns.
 
-ghost use Rattle.std.specs.Prelude.{◌≡◌, None, IfErr, IfOk, OnOk, option_map};
+ghost use Rattle.std.specs.Prelude.{◌≡◌, None, IfErr, IfOk, OnOk};
 ghost use Rattle.gb_defs.specs.Column.{first_repeated};
 ghost use Rattle.gb_defs.specs.Fault.{duplicate_of};
-ghost use Rattle.gb_base.specs.PlSmallStr.{IsNoMemory, name_of};
 ghost use Rattle.gb_base.specs.PolarsError.{Explains};
 ghost use Rattle.gb_frame.specs.Agg.{names_of};
 ghost use Rattle.gb_frame.specs.GroupBy.{IsGroupedBy};
@@ -13,11 +12,11 @@ use crate::group_by::GroupBy;
 use crate::group_frame::{check_height, find_keys, key_groups};
 use gb_base::error::{PolarsError, PolarsResult};
 use gb_base::memory::FreeGate;
+use gb_base::name_set::repeated;
 use gb_base::pool::Pool;
 use gb_base::small_str::PlSmallStr;
 use gb_series::frame::DataFrame;
 use std::alloc::Global;
-use std::collections::HashSet;
 use std::thread::Threads;
 
 /// The rows of a frame that agree in each of the columns of these names: null alone agrees with null. The groups
@@ -46,25 +45,11 @@ pub fn group_by_stable<'a, R: Threads + Sync>(
 // That no name stands twice.
 fn check_names(alloc: Global, names: &[PlSmallStr]) -> PolarsResult<()>
     ensures ok { OnOk result (first_repeated (names_of names.now) ≡ None) }
-    ensures err { IfErr result (λ e. Explains e (duplicate_of (first_repeated (names_of names.now)))) }
+    ensures err { IfErr result (λ e.
+        Explains e (duplicate_of (first_repeated (names_of names.now)))) }
 {
     match repeated(alloc, names)? {
         Some(name) => Err(PolarsError::Duplicate(name.try_clone()?)),
         None => Ok(()),
     }
-}
-
-// The first of the names that stood before.
-fn repeated(alloc: Global, names: &[PlSmallStr]) -> PolarsResult<Option<&PlSmallStr>>
-    ensures ok { let first = first_repeated (names_of names.now) in
-        IfOk result (λ name. option_map (λ n. name_of n.now) name ≡ first) }
-    ensures err { IfErr result IsNoMemory }
-{
-    let mut seen: HashSet<&str> = HashSet::new(alloc);
-    for name in names {
-        if !seen.insert(name.as_str())? {
-            return Ok(Some(name));
-        }
-    }
-    Ok(None)
 }

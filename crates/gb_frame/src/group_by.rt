@@ -131,7 +131,8 @@ impl<'a> GroupBy<'a> {
 
     // One method of each column that is chosen.
     fn aggs_by(&self, alloc: Global, method: GroupByMethod) -> PolarsResult<Vec<Agg>>
-        ensures ok { IfOk result (λ aggs. aggs_of aggs.items ≡ each_of self.now (method_of method)) }
+        ensures ok { IfOk result (λ aggs.
+            aggs_of aggs.items ≡ each_of self.now (method_of method)) }
         ensures err { IfErr result IsNoMemory }
     {
         match &self.selected {

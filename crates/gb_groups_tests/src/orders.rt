@@ -233,7 +233,7 @@ fn categories(alloc: Global, cells: &[Option<&str>]) -> PolarsResult<Categorical
     ensures { IfOk result (λ c. length c.slots ≡ length cells.now) }
 {
     let column = texts(alloc, cells)?;
-    CategoricalChunked::from_strings(&column, CategoricalOrdering::Physical)
+    CategoricalChunked::from_strings(&column, CategoricalOrdering::Physical, 7)
 }
 
 // Whether categories have these groups in the order of first rows, and these in that of their codes.

@@ -72,10 +72,12 @@ impl Drop for CategoricalChunked {
 }
 
 impl CategoricalChunked {
-    /// The texts of a column as categories, with codes by the order in which they first stand.
+    /// The texts of a column as categories, with codes by the order in which they first stand. They are
+    /// hashed under the seed, of which no code depends.
     pub fn from_strings(
         texts: &StringChunked,
         ordering: CategoricalOrdering,
+        seed: u64,
     ) -> PolarsResult<CategoricalChunked>
         requires { length texts.now.slots ≤ 4294967295 }
         ensures ok { IfOk result (λ c.
@@ -83,7 +85,7 @@ impl CategoricalChunked {
         ensures err { IfErr result IsNoMemory }
     {
         let name = texts.name().try_clone()?;
-        let mut builder = CategoricalBuilder::new(texts.allocator(), name, ordering);
+        let mut builder = CategoricalBuilder::new(texts.allocator(), name, ordering, seed);
         builder.push_texts(texts)?;
         builder.finish()
     }

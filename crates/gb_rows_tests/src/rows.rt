@@ -123,7 +123,7 @@ fn categories(alloc: Global) -> PolarsResult<Series> {
     let mut texts = StringChunked::new(alloc, name(alloc)?);
     texts.push(Some("b"))?;
     texts.push(Some("a"))?;
-    let column = CategoricalChunked::from_strings(&texts, CategoricalOrdering::Lexical)?;
+    let column = CategoricalChunked::from_strings(&texts, CategoricalOrdering::Lexical, 7)?;
     Ok(column.into_series())
 }
 

@@ -151,6 +151,7 @@ fn group_report<R: Threads + Sync, S: Source, G: Gate + Sync>(
         null_word: options.null_word.as_str(),
         workers: pool.workers(),
         block: BLOCK_BYTES,
+        seed: pool.seed(),
     };
     let frame = read_table(rt, alloc, source, limits.input_bytes, &reading)?;
     let (answer, trace) = group_frame(rt, alloc, &frame, by, aggs, &pool, gate)?;

@@ -6,6 +6,7 @@ use gb_base::small_str::PlSmallStr;
 use gb_frame::by_names::group_by_stable;
 use gb_series::frame::DataFrame;
 use gb_text::status::TableError;
+use gb_text::table::blocks::Reading;
 use gb_text::table::table_of;
 use gb_text::text::text_of;
 use std::alloc::Global;
@@ -16,7 +17,14 @@ const DAYS: &str =
     "date,temp:i32\n2020-08-21,20\n2020-08-21,10\n2020-08-22,7\n2020-08-23,9\n2020-08-22,1\n";
 
 fn days<R: Threads + Sync>(rt: &R, alloc: Global) -> Result<DataFrame, TableError> {
-    table_of(rt, alloc, DAYS.as_bytes(), "", &["date", "temp"], 1)
+    let reading = Reading {
+        names: &["date", "temp"],
+        null_word: "",
+        workers: 1,
+        block: 1,
+        seed: 7,
+    };
+    table_of(rt, alloc, DAYS.as_bytes(), &reading)
 }
 
 fn names(alloc: Global, words: &[&str]) -> PolarsResult<Vec<PlSmallStr>> {

@@ -14,6 +14,7 @@ use gb_series::into_series::IntoSeries;
 use gb_series::nested::list::ListChunked;
 use gb_series::series::Series;
 use gb_text::status::TableError;
+use gb_text::table::blocks::Reading;
 use gb_text::table::table_of;
 use gb_text::text::text_of;
 use std::alloc::Global;
@@ -87,7 +88,14 @@ fn is_text_column(read: Result<DataFrame, TableError>, name: &str) -> bool {
 #[test]
 fn texts_of_nested_frames(rt: HostRuntime) -> Result<(), Fail> {
     let alloc = rt.alloc();
-    let read = table_of(&rt, alloc, b"x:foo\n1\n", "-", &["x:foo"], 1);
+    let reading = Reading {
+        names: &["x:foo"],
+        null_word: "-",
+        workers: 1,
+        block: 1,
+        seed: 7,
+    };
+    let read = table_of(&rt, alloc, b"x:foo\n1\n", &reading);
     assert!(rt; is_text_column(read, "x:foo"));
     let wanted = "l:list[str]\n\"[\"\"a\\\"\"\"\",null]\"\n";
     assert!(rt; is_written(frame_of(alloc), alloc, wanted));

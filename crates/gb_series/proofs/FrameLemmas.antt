@@ -8,6 +8,7 @@ use Rattle.gb_defs.specs.Column.{rechunked, sliced, taken}
 use Rattle.gb_defs.specs.Slices.{slice_end, slice_start}
 use Rattle.gb_series.specs.Frame.{IsSmallFrame}
 use Rattle.gb_series.specs.Series.{part_at}
+pub use Rattle.gb_base.proofs.NameLemmas.{listed_more}
 
 -- ---- lengths
 
@@ -130,8 +131,3 @@ part_small start len frame = mapped_small (part_at start len) (count_shown (pos 
 
 pub rechunked_small : (frame : Frame) → IsSmallFrame frame → IsSmallFrame (map rechunked frame)
 rechunked_small frame = mapped_small rechunked (λ n. n) (λ c. refl) (λ c. refl) frame (λ n. omega arith)
-
--- ---- things in turn
-
-pub listed_more : {S X : Type 0} (f : S → X) (xs : List S) (i : ℕ) (x : S) → i < length xs → x ≡ get_or xs i x → map f (drop i xs) ≡ f x ∷ map f (drop (i + 1) xs)
-listed_more f xs i x lt read = ap (map f) (drop_more xs i x lt) ∙ ap (λ y. f y ∷ map f (drop (i + 1) xs)) (sym read)

@@ -12,11 +12,11 @@ use crate::append::{append_all, refuse_unlike};
 use crate::flatten::part_of;
 use crate::series::{Column, Series};
 use gb_base::error::{PolarsError, PolarsResult};
+use gb_base::name_set::{NameSet, repeated};
 use gb_base::nullable_idx::IdxSize;
 use gb_base::small_str::PlSmallStr;
 use gb_cols::series_trait::SeriesTrait;
 use std::alloc::Global;
-use std::collections::HashSet;
 use std::marker::Model;
 
 /// Columns of one length with different names.
@@ -237,7 +237,7 @@ impl DataFrame {
             IfErr result (λ e. Explains e fault) }
     {
         find_all(&self.columns, names)?;
-        if let Some(name) = repeated_among(names, *self.columns.allocator())? {
+        if let Some(name) = repeated(*self.columns.allocator(), names)? {
             return Err(PolarsError::Duplicate(name.try_clone()?));
         }
         Ok(copies_of(&self.columns, names, *self.columns.allocator())?)
@@ -273,7 +273,7 @@ pub(crate) fn repeated_name(columns: &Vec<Series>) -> PolarsResult<Option<&PlSma
         IfOk result (λ name. option_map (λ n. name_of n.now) name ≡ first_repeated names) }
     ensures err { IfErr result IsNoMemory }
 {
-    let mut seen: HashSet<&str> = HashSet::new(*columns.allocator());
+    let mut seen = NameSet::new(*columns.allocator());
     for column in columns {
         if !seen.insert(column.name().as_str())? {
             return Ok(Some(column.name()));
@@ -334,21 +334,6 @@ fn find_all(columns: &[Series], names: &[PlSmallStr]) -> PolarsResult<()>
         named_column(columns, name)?;
     }
     Ok(())
-}
-
-// The first of the names that stood before.
-fn repeated_among(names: &[PlSmallStr], alloc: Global) -> PolarsResult<Option<&PlSmallStr>>
-    ensures ok { let first = first_repeated (map name_of names.now) in
-        IfOk result (λ name. option_map (λ n. name_of n.now) name ≡ first) }
-    ensures err { IfErr result IsNoMemory }
-{
-    let mut seen: HashSet<&str> = HashSet::new(alloc);
-    for name in names {
-        if !seen.insert(name.as_str())? {
-            return Ok(Some(name));
-        }
-    }
-    Ok(None)
 }
 
 // Copies of the columns of these names, in the order of the names.

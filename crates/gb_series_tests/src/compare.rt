@@ -113,12 +113,12 @@ fn categories(alloc: Global) -> PolarsResult<CategoricalChunked> {
     texts.push(None)?;
     texts.push(Some("x"))?;
     texts.push(Some("y"))?;
-    CategoricalChunked::from_strings(&texts, CategoricalOrdering::Physical)
+    CategoricalChunked::from_strings(&texts, CategoricalOrdering::Physical, 7)
 }
 
 // The map of y and x.
 fn mapped(alloc: Global) -> PolarsResult<RevMapping> {
-    let mut map = RevMapping::new(alloc);
+    let mut map = RevMapping::new(alloc, 7);
     map.code_of("y")?;
     map.code_of("x")?;
     Ok(map)

@@ -224,7 +224,7 @@ fn categories(alloc: Global) -> PolarsResult<Series> {
     texts.push(None)?;
     texts.push(Some("a"))?;
     texts.push(Some("b"))?;
-    let codes = CategoricalChunked::from_strings(&texts, CategoricalOrdering::Physical)?;
+    let codes = CategoricalChunked::from_strings(&texts, CategoricalOrdering::Physical, 7)?;
     Ok(codes.into_series())
 }
 

@@ -1,14 +1,15 @@
 -- The keys of texts: the words at their ends, and that a key of a short text tells it.
-use Rattle.std.proofs.Common.{◌≡◌, ℕ, zero, suc, ◌+◌, ◌-◌, ◌/◌, ◌<◌, ◌≤◌, true, false, nat_le, nat_lt, inl, inr, List, [], ◌∷◌, ◌++◌, length, take, drop, get_or, refl, sym, ap, ap₂, subst, ◌∙◌, arith, ltb-true}
+use Rattle.std.proofs.Common.{◌≡◌, ℕ, zero, suc, ◌+◌, ◌-◌, ◌/◌, ◌<◌, ◌≤◌, true, false, nat_le, nat_lt, inl, inr, List, [], ◌∷◌, ◌++◌, length, take, drop, get_or, refl, sym, ap, ap₂, subst, ◌∙◌, arith, ltb-true, bit_xor}
 use Rattle.std.specs.Int.{w16, w32, w64, from_le_bytes, to_le_bytes}
 use Rattle.std.specs.Str.{IsUtf8}
 use Rattle.std.proofs.lemmas.Bool.{and_parts, cases_Bool, cases_lt}
 use Rattle.std.proofs.lemmas.Bool.Decides.{nat_tests}
 use Rattle.std.proofs.lemmas.List.{drop-drop, length-drop, length-take-le, take-append-drop}
 use Rattle.std.proofs.lemmas.Nat.{le_bytes_2, le_bytes_4, le_bytes_8}
+use lib.Bits.{xor_assoc, xor_self, xor_zero_r}
 use lib.Dec.{ltb}
 use lib.Utf8.{encode, encodes, next, scalar, scalars, scalar_cases}
-use Rattle.gb_table.specs.TextKey.{end_words, key_of, outer_words, text_hash}
+use Rattle.gb_table.specs.TextKey.{end_words, key_of, key_words, outer_words, text_hash}
 use Rattle.gb_table.specs.declared.text_key.TextKey.{TextKey}
 
 -- ---- bytes
@@ -72,44 +73,34 @@ bytes_utf8 text u = subst AreBytes u.1.1 (bytes_encodes u.0 u.1.0)
 
 -- ---- the words at the ends of a text
 
-pub words_long : (text : List ℕ) → 16 < length text → end_words text ≡ (text_hash text, 0)
+pub words_eight : (text : List ℕ) → 8 ≤ length text → end_words text ≡ outer_words w64 8 text
 unfolding end_words
-words_long text long =
-    let e : nat_lt 16 (length text) ≡ true = grind (arith, nat_tests) in
-    rw e refl
-
-pub words_eight : (text : List ℕ) → 8 ≤ length text → length text ≤ 16 → end_words text ≡ outer_words w64 8 text
-unfolding end_words
-words_eight text low high =
-    let e : nat_lt 16 (length text) ≡ false = grind (arith, nat_tests) in
+words_eight text low =
     let f : nat_le 8 (length text) ≡ true = grind (arith, nat_tests) in
-    rw (e, f) refl
+    rw f refl
 
 pub words_four : (text : List ℕ) → 4 ≤ length text → length text < 8 → end_words text ≡ outer_words w32 4 text
 unfolding end_words
 words_four text low high =
-    let e : nat_lt 16 (length text) ≡ false = grind (arith, nat_tests) in
     let f : nat_le 8 (length text) ≡ false = grind (arith, nat_tests) in
     let g : nat_le 4 (length text) ≡ true = grind (arith, nat_tests) in
-    rw (e, f, g) refl
+    rw (f, g) refl
 
 pub words_two : (text : List ℕ) → 2 ≤ length text → length text < 4 → end_words text ≡ outer_words w16 2 text
 unfolding end_words
 words_two text low high =
-    let e : nat_lt 16 (length text) ≡ false = grind (arith, nat_tests) in
     let f : nat_le 8 (length text) ≡ false = grind (arith, nat_tests) in
     let g : nat_le 4 (length text) ≡ false = grind (arith, nat_tests) in
     let h : nat_le 2 (length text) ≡ true = grind (arith, nat_tests) in
-    rw (e, f, g, h) refl
+    rw (f, g, h) refl
 
 pub words_one : (text : List ℕ) → length text < 2 → end_words text ≡ (get_or text 0 0, 0)
 unfolding end_words
 words_one text high =
-    let e : nat_lt 16 (length text) ≡ false = grind (arith, nat_tests) in
     let f : nat_le 8 (length text) ≡ false = grind (arith, nat_tests) in
     let g : nat_le 4 (length text) ≡ false = grind (arith, nat_tests) in
     let h : nat_le 2 (length text) ≡ false = grind (arith, nat_tests) in
-    rw (e, f, g, h) refl
+    rw (f, g, h) refl
 
 first_none : (text : List ℕ) → length text ≡ 0 → get_or text 0 0 ≡ 0
 first_none [] none = refl
@@ -164,7 +155,7 @@ one_tells (x ∷ x' ∷ xs) (y ∷ ys) short long e = absurd (omega arith)
 words_tell : (xs ys : List ℕ) → AreBytes xs → AreBytes ys → length ys ≡ length xs → length xs ≤ 16 → end_words xs ≡ end_words ys → xs ≡ ys
 words_tell xs ys h k long high e = elim (cases_lt (length xs) 8) [
   | inr eight ↦
-      let w : outer_words w64 8 xs ≡ outer_words w64 8 ys = sym (words_eight xs eight high) ∙ e ∙ words_eight ys (omega arith) (omega arith) in
+      let w : outer_words w64 8 xs ≡ outer_words w64 8 ys = sym (words_eight xs eight) ∙ e ∙ words_eight ys (omega arith) in
       ends_tell 8 (from_le_bytes w64) eight_tell xs ys h k long eight (omega arith) (ap (λ (p : ℕ × ℕ). p.0) w) (ap (λ (p : ℕ × ℕ). p.1) w)
   | inl low8 ↦ elim (cases_lt (length xs) 4) [
     | inr four ↦
@@ -179,7 +170,31 @@ words_tell xs ys h k long high e = elim (cases_lt (length xs) 8) [
   ]
 ]
 
+-- ---- under a seed
+
+pub key_long : (seed : ℕ) (text : List ℕ) → 16 < length text → key_words seed text ≡ (text_hash seed text, 0)
+unfolding key_words
+key_long seed text long =
+    let e : nat_lt 16 (length text) ≡ true = grind (arith, nat_tests) in
+    rw e refl
+
+pub key_short : (seed : ℕ) (text : List ℕ) → length text ≤ 16 → key_words seed text ≡ (bit_xor (end_words text).0 seed, (end_words text).1)
+unfolding key_words
+key_short seed text short =
+    let e : nat_lt 16 (length text) ≡ false = grind (arith, nat_tests) in
+    rw e refl
+
+-- what is joined with one word is told by what comes of it
+unjoined : (a s : ℕ) → bit_xor (bit_xor a s) s ≡ a
+unjoined a s = xor_assoc a s s ∙ ap (bit_xor a) (xor_self s) ∙ xor_zero_r a
+
 -- a short text is told by its key
-pub key_tells : (xs ys : List ℕ) → IsUtf8 xs → IsUtf8 ys → length xs ≤ 16 → key_of xs ≡ key_of ys → xs ≡ ys
-key_tells xs ys u v high e =
-    words_tell xs ys (bytes_utf8 xs u) (bytes_utf8 ys v) (sym (ap (λ (k : TextKey). k.len) e)) high (ap (λ (k : TextKey). (k.front, k.back)) e)
+pub key_tells : (seed : ℕ) (xs ys : List ℕ) → IsUtf8 xs → IsUtf8 ys → length xs ≤ 16 → key_of seed xs ≡ key_of seed ys → xs ≡ ys
+key_tells seed xs ys u v high e =
+    let long : length ys ≡ length xs = sym (ap (λ (k : TextKey). k.len) e) in
+    let same : key_words seed xs ≡ key_words seed ys = ap (λ (k : TextKey). (k.front, k.back)) e in
+    let words = sym (key_short seed xs high) ∙ same ∙ key_short seed ys (omega (arith, long)) in
+    let front : (end_words xs).0 ≡ (end_words ys).0 =
+    sym (unjoined (end_words xs).0 seed) ∙ ap (λ (p : ℕ × ℕ). bit_xor p.0 seed) words ∙ unjoined (end_words ys).0 seed in
+    let back : (end_words xs).1 ≡ (end_words ys).1 = ap (λ (p : ℕ × ℕ). p.1) words in
+    words_tell xs ys (bytes_utf8 xs u) (bytes_utf8 ys v) long high (ap₂ (λ (f b : ℕ). (f, b)) front back)

@@ -3,13 +3,14 @@
 ghost use Rattle.std.specs.Prelude.{◌≡◌, ◌↔◌, ◌≤◌, IsTrue, length};
 ghost use Rattle.std.specs.Hash.FoldHasher.{folded_multiply};
 ghost use Rattle.std.specs.Int.{w16, w32, w64};
-ghost use Rattle.gb_table.specs.TextKey.{end_words, key_of, outer_words, text_hash};
+ghost use Rattle.gb_table.specs.TextKey.{end_words, key_of, key_words, outer_words, text_hash};
 
 use crate::slots::Hashed;
 use std::hash::{BuildHasher, BuildHasherDefault, FoldHasher};
 
 /// The length of a text, and a word for each of its ends: its first and its last bytes, which overlap where
-/// it is short. For a long text its hash stands in for both.
+/// it is short, the first ones joined with a seed. For a long text its hash stands in for both. Who does not
+/// know the seed cannot choose texts whose hashes agree.
 #[derive(Clone, Copy, Debug, Drop)]
 pub(crate) struct TextKey {
     len: usize,
@@ -35,10 +36,10 @@ impl Hashed for TextKey {
 
 impl TextKey {
     #[inline]
-    pub(crate) fn new(text: &str) -> TextKey
-        ensures { result ≡ key_of text.now }
+    pub(crate) fn new(text: &str, seed: u64) -> TextKey
+        ensures { result ≡ key_of seed text.now }
     {
-        let (front, back) = end_words(text);
+        let (front, back) = key_words(text, seed);
         TextKey {
             len: text.len(),
             front,
@@ -62,15 +63,23 @@ impl TextKey {
     }
 }
 
-// A word for each end of a text.
+// The words of a text under a seed.
 #[inline]
-fn end_words(text: &str) -> (u64, u64)
-    ensures { result ≡ end_words text.now }
+fn key_words(text: &str, seed: u64) -> (u64, u64)
+    ensures { result ≡ key_words seed text.now }
 {
-    let bytes = text.as_bytes();
-    if bytes.len() > 16 {
-        return (text_hash(text), 0);
+    if text.len() > 16 {
+        return (text_hash(text, seed), 0);
     }
+    let (front, back) = end_words(text.as_bytes());
+    (front ^ seed, back)
+}
+
+// A word for each end of a short text.
+#[inline]
+fn end_words(bytes: &[u8]) -> (u64, u64)
+    ensures { result ≡ end_words bytes.now }
+{
     if bytes.len() >= 8 {
         return words_of_eight(bytes);
     }
@@ -125,12 +134,12 @@ fn words_of_two(bytes: &[u8]) -> (u64, u64)
     }
 }
 
-// The library's hash of a text.
-fn text_hash(text: &str) -> u64
-    ensures { result ≡ text_hash text.now }
+// The library's hash of a text behind a seed.
+fn text_hash(text: &str, seed: u64) -> u64
+    ensures { result ≡ text_hash seed text.now }
 {
     let hasher: BuildHasherDefault<FoldHasher> = BuildHasherDefault::new();
-    hasher.hash_one(text)
+    hasher.hash_one((seed, text))
 }
 
 // Both halves of the product.

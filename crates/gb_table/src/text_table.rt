@@ -4,8 +4,8 @@ ghost use Rattle.std.specs.Prelude.{◌≡◌, ◌*◌, ◌^◌, ◌<◌, ◌++�
 ghost use Rattle.std.specs.List.{IsDistinct, list_any};
 ghost use Rattle.std.specs.Str.{IsUtf8, bytes_eq};
 ghost use Rattle.gb_table.specs.Table.{IsRoomy, IsTable};
-ghost use Rattle.gb_table.specs.TextKey.{hash_of, key_of};
-ghost use Rattle.gb_table.specs.TextTable.{HasSlots, IsTextSpot};
+ghost use Rattle.gb_table.specs.TextKey.{hash_of};
+ghost use Rattle.gb_table.specs.TextTable.{AreKeyed, HasSlots, IsTextSpot};
 
 use crate::slots::{Hashed, Spot, make_room, rebuilt};
 use crate::text_key::TextKey;
@@ -14,9 +14,11 @@ use std::alloc::{AllocError, Global};
 use std::marker::Model;
 
 /// Distinct texts in the order in which they first came. The number of a text is its place. Each text is
-/// copied once, into one buffer, and a short one is compared by its key alone.
+/// copied once, into one buffer, and a short one is compared by its key alone. Texts are hashed under a seed,
+/// of which no number depends: where they come from strangers it has to be one that they do not know.
 #[derive(Debug, Drop)]
 pub struct TextTable {
+    seed: u64,
     // 0 where a slot is free, else a text's number and 1.
     slots: Vec<u32>,
     keys: Vec<TextKey>,
@@ -35,7 +37,7 @@ impl Model for TextTable {
     ghost view = { λ table. table.texts };
 
     ghost invariant = { λ table.
-        IsTextTable table.slots.items table.keys.items table.texts };
+        IsTextTable table.seed table.slots.items table.keys.items table.texts };
 }
 
 impl PartialEq for TextTable {
@@ -59,10 +61,11 @@ impl Eq for TextTable {
 
 impl TextTable {
     /// No texts, and no memory taken.
-    pub fn new(alloc: Global) -> TextTable
+    pub fn new(alloc: Global, seed: u64) -> TextTable
         ensures { result ≡ [] }
     {
         TextTable {
+            seed,
             slots: Vec::new(alloc),
             keys: Vec::new(alloc),
             texts: Texts::new(alloc),
@@ -94,7 +97,7 @@ impl TextTable {
         if self.slots.is_empty() {
             return None;
         }
-        let key = TextKey::new(text);
+        let key = TextKey::new(text, self.seed);
         match probe(&self.slots, &self.keys, &self.texts, text, key) {
             Spot::Known(number) => Some(number),
             Spot::Free(_) => None,
@@ -114,7 +117,7 @@ impl TextTable {
         ensures unchanged { OnErr result (self.new ≡ self.old) }
     {
         make_slots(&mut self.slots, &self.keys)?;
-        let key = TextKey::new(text);
+        let key = TextKey::new(text, self.seed);
         match probe(&self.slots, &self.keys, &self.texts, text, key) {
             Spot::Known(number) => Ok(number),
             Spot::Free(at) => {
@@ -150,10 +153,9 @@ fn make_slots(slots: &mut Vec<u32>, keys: &[TextKey]) -> Result<(), AllocError>
 fn probe(slots: &[u32], keys: &[TextKey], texts: &Texts, text: &str, key: TextKey) -> Spot
     requires table { IsTable slots.now (map hash_of keys.now) }
     requires room { length keys.now < length slots.now }
-    requires keyed { keys.now ≡ map key_of texts.now }
-    requires key { key ≡ key_of text.now }
+    requires keyed { AreKeyed keys.now texts.now key text.now }
     requires utf8 { All IsUtf8 texts.now }
-    ensures { IsTextSpot slots.now texts.now text.now result }
+    ensures { IsTextSpot slots.now texts.now key text.now result }
 {
     let mask = slots.len() - 1;
     let mut at = (key.hash() & mask as u64) as usize;
@@ -173,8 +175,7 @@ fn probe(slots: &[u32], keys: &[TextKey], texts: &Texts, text: &str, key: TextKe
 // Whether a text stands at a place. A short one is told by its key, and is not read.
 #[inline]
 fn stands_at(keys: &[TextKey], texts: &Texts, place: usize, text: &str, key: TextKey) -> bool
-    requires keyed { keys.now ≡ map key_of texts.now }
-    requires key { key ≡ key_of text.now }
+    requires keyed { AreKeyed keys.now texts.now key text.now }
     requires utf8 { All IsUtf8 texts.now }
     requires inside { place < length texts.now }
     ensures { result ≡ bytes_eq text.now (get_or texts.now place []) }

@@ -8,14 +8,11 @@ use Rattle.std.proofs.lemmas.Bool.{cases_Bool}
 use Rattle.std.proofs.lemmas.List.{append-nil, length-append}
 use Rattle.csv.specs.Records.{field_at}
 use Rattle.gb_defs.specs.Table.{TableFault, BadCell, SameName, Head, head_of, onto, heads_from}
+use Rattle.gb_base.proofs.NameLemmas.{HasOneMore, bytes_eq_symm}
 use Rattle.gb_text.specs.Head.{readable_field}
 use Rattle.gb_text.specs.Building.{Building}
 use Rattle.gb_text.specs.Table.{map_ok, columns_of_header, built_from, built_of}
 use Rattle.gb_text.proofs.PushLemmas.{field_drop, front_more, no_front}
-
--- whether the name is among the set's keys
-abbrev pub holds : List (Bor (List ℕ)) → List ℕ → Bool
-holds keys name = list_any (λ k. bytes_eq name k.now) keys
 
 past_fields : (fields : List (List ℕ)) (i : ℕ) → None ≡ field_at fields i → drop i fields ≡ []
 unfolding field_at
@@ -23,10 +20,6 @@ past_fields [] zero e = refl
 past_fields [] (suc i) e = refl
 past_fields (f ∷ fields) zero e = cc
 past_fields (f ∷ fields) (suc i) e = past_fields fields i e
-
-bytes_eq_symm : (xs ys : List ℕ) → bytes_eq xs ys ≡ bytes_eq ys xs
-bytes_eq_symm xs ys =
-    both_ways (bytes_eq xs ys) (bytes_eq ys xs) (λ e. (bytes_decides ys xs).1 (sym ((bytes_decides xs ys).0 e))) (λ e. (bytes_decides xs ys).1 (sym ((bytes_decides ys xs).0 e)))
 
 -- ---- a field that reads, and one that does not
 
@@ -53,12 +46,6 @@ module _ (k : ℕ) (seen : List (List ℕ)) (field : List ℕ) (rest : List (Lis
     head_more : list_any (bytes_eq head.name) seen ≡ false → heads_from k seen (field ∷ rest) ≡ onto head (heads_from (suc k) (head.name ∷ seen) rest)
     head_more e = let h = same_head field head is in rw (h.0, h.1, e)
 
-added : (new : Bool) (name other : List ℕ) (before keys : Bool) → new ≡ cond (bytes_eq name other) true keys → keys ≡ before → new ≡ (bytes_eq other name || before)
-added new name other before keys update e = elim (cases_Bool (bytes_eq name other)) [
-  | inl h ↦ rw (update, bytes_eq_symm other name, h)
-  | inr h ↦ rw (update, bytes_eq_symm other name, h) e
-]
-
 empty_more : (asked : List ℕ → Bool) (k : ℕ) (heads : List Head) (head : Head) → built_from asked k (heads ++ head ∷ []) [] ≡ built_from asked k heads [] ++ built_of (asked head.name) head [] ∷ []
 empty_more asked k [] head = refl
 empty_more asked k (other ∷ heads) head = rw (empty_more asked (suc k) heads head)
@@ -66,19 +53,19 @@ empty_more asked k (other ∷ heads) head = rw (empty_more asked (suc k) heads h
 -- ---- a loop over the fields
 
 module _ (asked : List ℕ → Bool) (fields : List (List ℕ)) where
-  -- the columns are those of the fields before the i-th, and the keys are their names
-  pub record IsHeader (i : ℕ) (columns : List Building) (keys : List (Bor (List ℕ))) : Type 0 where
+  -- the columns are those of the fields before the i-th, and the set has their names
+  pub record IsHeader (i : ℕ) (columns : List Building) (set : List (List ℕ)) : Type 0 where
     pub heads : List Head
     pub names : List (List ℕ)
     pub so_far : heads_from 1 [] fields ≡ map_ok (λ hs. heads ++ hs) (heads_from (suc i) names (drop i fields))
     pub count : length columns ≡ i
     pub columns_are : columns ≡ built_from asked 0 heads []
-    pub has : (name : List ℕ) → holds keys name ≡ list_any (bytes_eq name) names
+    pub has : (name : List ℕ) → list_any (bytes_eq name) set ≡ list_any (bytes_eq name) names
 
-  pub header_start : (columns : List Building) (keys : List (Bor (List ℕ))) → columns ≡ [] → keys ≡ [] → IsHeader 0 columns keys
-  header_start columns keys e k = record { heads = []; names = []; so_far = no_front (heads_from 1 [] fields); count = ap length e; columns_are = e; has = λ name. ap (λ ks. holds ks name) k }
+  pub header_start : (columns : List Building) (set : List (List ℕ)) → columns ≡ [] → set ≡ [] → IsHeader 0 columns set
+  header_start columns set e k = record { heads = []; names = []; so_far = no_front (heads_from 1 [] fields); count = ap length e; columns_are = e; has = λ name. ap (list_any (bytes_eq name)) k }
 
-  module _ (i : ℕ) (columns : List Building) (keys : List (Bor (List ℕ))) (s : IsHeader i columns keys) where
+  module _ (i : ℕ) (columns : List Building) (set : List (List ℕ)) (s : IsHeader i columns set) where
     pub header_end : None ≡ field_at fields i → columns_of_header asked fields ≡ Ok columns
     header_end e =
         let all = s.so_far ∙ ap (λ rest. map_ok (λ hs. s.heads ++ hs) (heads_from (suc i) s.names rest)) (past_fields fields i e) ∙ ap (λ hs. Ok hs) (append-nil s.heads) in
@@ -96,12 +83,12 @@ module _ (asked : List ℕ → Bool) (fields : List (List ℕ)) where
 
       module _ (head : Head) (is : readable_field field ≡ Some head) where
         -- the name stood before
-        pub header_repeated : holds keys head.name ≡ true → columns_of_header asked fields ≡ Err (SameName (suc i))
+        pub header_repeated : list_any (bytes_eq head.name) set ≡ true → columns_of_header asked fields ≡ Err (SameName (suc i))
         header_repeated e = refused (SameName (suc i)) (head_repeated (suc i) s.names field (drop (i + 1) fields) head is (sym (s.has head.name) ∙ e))
 
-        pub header_more : (keys' : List (Bor (List ℕ))) → holds keys head.name ≡ false → ((name : List ℕ) → holds keys' name ≡ cond (bytes_eq head.name name) true (holds keys name))
-            → IsHeader (i + 1) (columns ++ built_of (asked head.name) head [] ∷ []) keys'
-        header_more keys' e update =
+        pub header_more : (more : List (List ℕ)) → list_any (bytes_eq head.name) set ≡ false → HasOneMore head.name set more
+            → IsHeader (i + 1) (columns ++ built_of (asked head.name) head [] ∷ []) more
+        header_more more e update =
             let one = head_more (suc i) s.names field (drop (i + 1) fields) head is (sym (s.has head.name) ∙ e) in
             let next : heads_from (suc (suc i)) (head.name ∷ s.names) (drop (i + 1) fields) ≡ heads_from (suc (i + 1)) (head.name ∷ s.names) (drop (i + 1) fields) = rw add-one in
             record {
@@ -111,15 +98,5 @@ module _ (asked : List ℕ → Bool) (fields : List (List ℕ)) where
                   ∙ ap (map_ok (λ hs. s.heads ++ hs)) (one ∙ ap (onto head) next) ∙ front_more s.heads head (heads_from (suc (i + 1)) (head.name ∷ s.names) (drop (i + 1) fields));
               count = omega (arith, length-append columns (built_of (asked head.name) head [] ∷ []), s.count);
               columns_are = ap (λ cs. cs ++ built_of (asked head.name) head [] ∷ []) s.columns_are ∙ sym (empty_more asked 0 s.heads head);
-              has = λ name. added (holds keys' name) head.name name (list_any (bytes_eq name) s.names) (holds keys name) (update name) (s.has name);
+              has = λ name. update name ∙ ap (λ b. b || list_any (bytes_eq name) set) (bytes_eq_symm head.name name) ∙ ap (λ b. bytes_eq name head.name || b) (s.has name);
             }
-
--- ---- what an insertion into the set tells
-
-pub held : (b added : Bool) → added ≡ not b → added ≡ false → b ≡ true
-held true added e f = refl
-held false added e f = cc
-
-pub unheld : (b added : Bool) → added ≡ not b → added ≡ true → b ≡ false
-unheld true added e f = cc
-unheld false added e f = refl

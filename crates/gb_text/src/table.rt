@@ -27,6 +27,7 @@ ghost use Rattle.csv.specs.Reading.{ReadRecord};
 ghost use Rattle.csv.specs.Records.{AllText, fields_of};
 
 use crate::status::{TableError, TableFault};
+use crate::table::blocks::Reading;
 use crate::table::grown::{GrownColumn, grown_columns};
 use crate::table::header::columns_of_header;
 use crate::table::lines::count_parts;
@@ -120,20 +121,20 @@ pub fn table_of<R: Threads + Sync>(
     rt: &R,
     alloc: Global,
     bytes: &[u8],
-    null_word: &str,
-    names: &[&str],
-    workers: usize,
+    reading: &Reading<'_>,
 ) -> Result<DataFrame, TableError>
     requires { length bytes.now ≤ 4294967295 }
-    ensures ok { let read = asked_table (names_in names.now) bytes.now null_word.now in
-        IfOk result (λ frame. read ≡ Ok (map rechunked frame)) }
-    ensures err { IfErr result (λ e. IsRefusedTable e (table bytes.now null_word.now)) }
+    ensures ok { let names = names_in reading.now.names.now in
+        IfOk result (λ frame. asked_table names bytes.now reading.now.null_word.now
+        ≡ Ok (map rechunked frame)) }
+    ensures err { IfErr result (λ e.
+        IsRefusedTable e (table bytes.now reading.now.null_word.now)) }
 {
-    let parts = count_parts(bytes.len(), workers);
-    if let Some(frame) = plain_table(rt, alloc, bytes, null_word, names, parts)? {
+    let parts = count_parts(bytes.len(), reading.workers);
+    if let Some(frame) = plain_table(rt, alloc, bytes, reading, parts)? {
         return Ok(frame);
     }
-    csv_table(alloc, bytes, null_word, names)
+    csv_table(alloc, bytes, reading)
 }
 
 // A reader of the records of a text, the header among them.
@@ -204,13 +205,14 @@ fn push_record(
 pub fn csv_table(
     alloc: Global,
     bytes: &[u8],
-    null_word: &str,
-    names: &[&str],
+    reading: &Reading<'_>,
 ) -> Result<DataFrame, TableError>
     requires { length bytes.now ≤ 4294967295 }
-    ensures ok { let read = asked_table (names_in names.now) bytes.now null_word.now in
-        IfOk result (λ frame. read ≡ Ok (map rechunked frame)) }
-    ensures err { IfErr result (λ e. IsRefusedTable e (table bytes.now null_word.now)) }
+    ensures ok { let names = names_in reading.now.names.now in
+        IfOk result (λ frame. asked_table names bytes.now reading.now.null_word.now
+        ≡ Ok (map rechunked frame)) }
+    ensures err { IfErr result (λ e.
+        IsRefusedTable e (table bytes.now reading.now.null_word.now)) }
 {
     let mut reader = reader_of(alloc, bytes);
     let mut fields = ByteRecord::new(alloc);
@@ -218,9 +220,9 @@ pub fn csv_table(
     if !found {
         return Err(TableError::Fault(TableFault::NoHeader));
     }
-    let columns = columns_of_header(alloc, &fields, names)?;
-    let grown = grown_columns(columns)?;
-    let frame = csv_rows(reader, grown, 1, null_word)?;
+    let columns = columns_of_header(alloc, &fields, reading.names)?;
+    let grown = grown_columns(columns, reading.seed)?;
+    let frame = csv_rows(reader, grown, 1, reading.null_word)?;
     Ok(frame)
 }
 

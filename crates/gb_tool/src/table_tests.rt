@@ -38,6 +38,17 @@ fn shown(alloc: Global, frame: &DataFrame) -> Result<Vec<u8>, AllocError> {
 // All names of the tables below.
 const NAMES: [&str; 8] = ["date", "temp", "k", "v", "a:b", "k:i65", "c", "d"];
 
+// How a table is read for these names by four workers.
+fn reading<'a>(names: &'a [&'a str], null_word: &'a str) -> Reading<'a> {
+    Reading {
+        names,
+        null_word,
+        workers: 4,
+        block: 1_048_576,
+        seed: 7,
+    }
+}
+
 #[test]
 fn tables_and_faults(rt: HostRuntime) -> Result<(), Fail> {
     let alloc = rt.alloc();
@@ -115,7 +126,7 @@ fn tables_and_faults(rt: HostRuntime) -> Result<(), Fail> {
     ];
     for (text, null_word, want) in cases {
         assert!(rt; text.len() < 100, "at {text:?}");
-        match table_of(&rt, alloc, text, null_word, &NAMES, 4) {
+        match table_of(&rt, alloc, text, &reading(&NAMES, null_word)) {
             Ok(frame) => {
                 let shown = shown(alloc, &frame)?;
                 let shown = shown.as_slice();
@@ -201,7 +212,7 @@ fn columns_that_are_asked(rt: HostRuntime) -> Result<(), Fail> {
         ),
     ];
     for (text, names, want) in cases {
-        match table_of(&rt, alloc, text, "", names, 4) {
+        match table_of(&rt, alloc, text, &reading(names, "")) {
             Ok(frame) => {
                 let shown = shown(alloc, &frame)?;
                 assert!(rt;
@@ -228,7 +239,7 @@ fn shown_in_parts<R: Threads + Sync>(
     requires few { length text.now ≤ 1000000 }
     requires some { 1 ≤ parts }
 {
-    match plain_table(rt, alloc, text, "", &NAMES, parts)? {
+    match plain_table(rt, alloc, text, &reading(&NAMES, ""), parts)? {
         Some(frame) => Ok(Some(shown(alloc, &frame)?)),
         None => Ok(None),
     }
@@ -238,7 +249,7 @@ fn shown_in_parts<R: Threads + Sync>(
 fn shown_by_csv(alloc: Global, text: &[u8]) -> Result<Option<Vec<u8>>, AllocError>
     requires { length text.now ≤ 1000000 }
 {
-    match csv_table(alloc, text, "", &NAMES) {
+    match csv_table(alloc, text, &reading(&NAMES, "")) {
         Ok(frame) => Ok(Some(shown(alloc, &frame)?)),
         Err(TableError::Fault(_)) => Ok(None),
         Err(TableError::NoMemory) => Err(AllocError),
@@ -366,6 +377,7 @@ fn shown_in_blocks<R: Threads + Sync>(
         null_word: "",
         workers,
         block,
+        seed: 7,
     };
     match read_table(rt, alloc, &mut source, 1_000_000, &reading) {
         Ok(frame) => Ok(Some(shown(alloc, &frame)?)),

@@ -35,6 +35,7 @@ use std::sync::Arc;
 #[derive(Drop)]
 pub struct CategoricalBuilder {
     alloc: Global,
+    seed: u64,
     name: PlSmallStr,
     ordering: CategoricalOrdering,
     known: TextTable,
@@ -62,16 +63,23 @@ impl Model for CategoricalBuilder {
 }
 
 impl CategoricalBuilder {
-    /// A column with no rows, and no memory taken.
-    pub fn new(alloc: Global, name: PlSmallStr, ordering: CategoricalOrdering) -> CategoricalBuilder
+    /// A column with no rows, and no memory taken. Texts are hashed under the seed, of which no code depends:
+    /// where they come from strangers it has to be one that they do not know.
+    pub fn new(
+        alloc: Global,
+        name: PlSmallStr,
+        ordering: CategoricalOrdering,
+        seed: u64,
+    ) -> CategoricalBuilder
         ensures { let dtype = Flat (Categorical None (ordering_of ordering)) in
             result ≡ fresh_column (name_of name) dtype [] }
     {
         CategoricalBuilder {
             alloc,
+            seed,
             name,
             ordering,
-            known: TextTable::new(alloc),
+            known: TextTable::new(alloc, seed),
             codes: NullableArray::empty(alloc),
         }
     }
@@ -91,7 +99,7 @@ impl CategoricalBuilder {
         ensures err { OnErr result (self.new ≡ fresh_column self.old.name self.old.dtype []) }
     {
         let alloc = texts.allocator();
-        let mut known = mem::replace(&mut self.known, TextTable::new(alloc));
+        let mut known = mem::replace(&mut self.known, TextTable::new(alloc, self.seed));
         let mut codes = mem::replace(&mut self.codes, NullableArray::empty(alloc));
         codes.reserve(texts.len())?;
         code_column(texts, &mut known, &mut codes)?;
@@ -107,7 +115,7 @@ impl CategoricalBuilder {
         ensures ok { OnOk result (self.new ≡ pushed self.old (text_slot text.entry)) }
         ensures err { OnErr result (self.new ≡ fresh_column self.old.name self.old.dtype []) }
     {
-        let mut known = mem::replace(&mut self.known, TextTable::new(self.alloc));
+        let mut known = mem::replace(&mut self.known, TextTable::new(self.alloc, self.seed));
         let mut codes = mem::replace(&mut self.codes, NullableArray::empty(self.alloc));
         code_text(text, &mut known, &mut codes)?;
         self.known = known;
@@ -150,6 +158,7 @@ impl CategoricalBuilder {
     {
         let CategoricalBuilder {
             alloc,
+            seed: _,
             name,
             ordering,
             known,

@@ -33,7 +33,7 @@ fn finds_all(table: &TextTable) -> bool {
 
 #[test]
 fn texts_are_numbered(rt: HostRuntime) -> Result<(), Fail> {
-    let mut table = TextTable::new(rt.alloc());
+    let mut table = TextTable::new(rt.alloc(), 7);
     for text in TEXTS {
         number(&mut table, text);
     }

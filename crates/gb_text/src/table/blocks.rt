@@ -44,6 +44,9 @@ pub struct Reading<'a> {
     pub workers: usize,
     /// How many bytes are held at a time, one line at least.
     pub block: usize,
+    /// What texts of categories are hashed under. Where a table comes from a stranger it has to be one that they
+    /// do not know.
+    pub seed: u64,
 }
 
 /// A header with its columns, and where the lines behind it begin.
@@ -390,14 +393,7 @@ pub fn read_table<R: Threads + Sync, S: Source>(
     let first = fill(source, &mut held, 0, limit, 1)?;
     let Some(start) = start_of(alloc, &held, reading.names)? else {
         fill_all(source, &mut held, first, limit)?;
-        let frame = table_of(
-            rt,
-            alloc,
-            &held,
-            reading.null_word,
-            reading.names,
-            reading.workers,
-        )?;
+        let frame = table_of(rt, alloc, &held, reading)?;
         return Ok(frame);
     };
     let Start {
@@ -405,7 +401,7 @@ pub fn read_table<R: Threads + Sync, S: Source>(
         columns,
         lines,
     } = start;
-    let grown = grown_columns(columns)?;
+    let grown = grown_columns(columns, reading.seed)?;
     keep_from(&mut held, lines)?;
     let enough = reading.block.min(FIRST_BLOCK);
     let now = fill(source, &mut held, first.read, limit, enough)?;

@@ -121,8 +121,8 @@ impl Cells {
         }
     }
 
-    // The column of the cells.
-    fn finish(self) -> Result<Series, AllocError>
+    // The column of the cells. Texts of categories are hashed under the seed.
+    fn finish(self, seed: u64) -> Result<Series, AllocError>
         requires takes { TakesCells self }
         requires whole { IsWholeColumn (slots_in self) }
         ensures { IfOk result (λ column. rechunked (value_of column) ≡ read_as (slots_in self)) }
@@ -130,7 +130,7 @@ impl Cells {
         match self {
             Cells::Slots(column) => Ok(column),
             Cells::Texts(texts, ordering) => {
-                let coded = only_memory(CategoricalChunked::from_strings(&texts, ordering))?;
+                let coded = only_memory(CategoricalChunked::from_strings(&texts, ordering, seed))?;
                 Ok(coded.into_series())
             }
         }
@@ -339,8 +339,8 @@ impl ColumnBuilder {
     }
 
     /// The column of the cells, None where they were only checked. One pass over the texts of
-    /// categories.
-    pub fn finish(self) -> Result<Option<Series>, AllocError>
+    /// categories, which are hashed under the seed.
+    pub fn finish(self, seed: u64) -> Result<Option<Series>, AllocError>
         requires { IsWhole self }
         ensures { IfOk result (λ found. option_map rechunked_of found ≡ read_if_kept self) }
     {
@@ -352,7 +352,7 @@ impl ColumnBuilder {
         } = self;
         match checked {
             Some(_) => Ok(None),
-            None => Ok(Some(cells.finish()?)),
+            None => Ok(Some(cells.finish(seed)?)),
         }
     }
 }

@@ -36,6 +36,8 @@ pub enum GrownCells {
 #[derive(Drop)]
 pub struct GrownColumn {
     cells: GrownCells,
+    // What texts of categories are hashed under.
+    seed: u64,
 }
 
 impl Model for GrownColumn {
@@ -50,20 +52,22 @@ impl Model for GrownColumn {
 }
 
 impl GrownColumn {
-    /// The same column, its categories by their codes.
-    pub fn new(column: ColumnBuilder) -> Result<GrownColumn, AllocError>
+    /// The same column, its categories by their codes. Their texts are hashed under the seed.
+    pub fn new(column: ColumnBuilder, seed: u64) -> Result<GrownColumn, AllocError>
         requires { IsWhole column }
         ensures { IfOk result (λ grown. in_one_chunk grown ≡ in_one_chunk column) }
     {
         match column.into_categories() {
             Ok((texts, ordering)) => {
-                let codes = code_texts(&texts, ordering)?;
+                let codes = code_texts(&texts, ordering, seed)?;
                 Ok(GrownColumn {
                     cells: GrownCells::Coded(codes),
+                    seed,
                 })
             }
             Err(column) => Ok(GrownColumn {
                 cells: GrownCells::Built(column),
+                seed,
             }),
         }
     }
@@ -114,9 +118,9 @@ impl GrownColumn {
         requires { IsWhole self }
         ensures { IfOk result (λ found. option_map rechunked_of found ≡ read_if_kept self) }
     {
-        let GrownColumn { cells } = self;
+        let GrownColumn { cells, seed } = self;
         match cells {
-            GrownCells::Built(column) => column.finish(),
+            GrownCells::Built(column) => column.finish(seed),
             GrownCells::Coded(codes) => {
                 let column = only_memory(codes.finish())?;
                 Ok(Some(column.into_series()))
@@ -129,12 +133,13 @@ impl GrownColumn {
 fn code_texts(
     texts: &StringChunked,
     ordering: CategoricalOrdering,
+    seed: u64,
 ) -> Result<CategoricalBuilder, AllocError>
     ensures { let dtype = Flat (Categorical None (ordering_of ordering)) in
         IfOk result (λ codes. codes ≡ fresh_column texts.now.name dtype texts.now.slots) }
 {
     let name = only_memory(texts.name().try_clone())?;
-    let mut codes = CategoricalBuilder::new(texts.allocator(), name, ordering);
+    let mut codes = CategoricalBuilder::new(texts.allocator(), name, ordering, seed);
     push_texts(&mut codes, texts)?;
     Ok(codes)
 }
@@ -179,15 +184,18 @@ fn append_categories(codes: &mut CategoricalBuilder, other: ColumnBuilder) -> Re
     push_texts(codes, &texts)
 }
 
-/// The same columns, categories by their codes.
-pub fn grown_columns(columns: Vec<ColumnBuilder>) -> Result<Vec<GrownColumn>, AllocError>
+/// The same columns, categories by their codes, their texts hashed under the seed.
+pub fn grown_columns(
+    columns: Vec<ColumnBuilder>,
+    seed: u64,
+) -> Result<Vec<GrownColumn>, AllocError>
     requires { All IsWhole columns.items }
     ensures { IfOk result (λ all.
         map in_one_chunk all.items ≡ map in_one_chunk columns.items) }
 {
     let mut all = Vec::with_capacity(*columns.allocator(), columns.len())?;
     for column in columns {
-        let grown = GrownColumn::new(column)?;
+        let grown = GrownColumn::new(column, seed)?;
         all.push(grown)?;
     }
     Ok(all)

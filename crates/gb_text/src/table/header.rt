@@ -16,9 +16,9 @@ use crate::table::only_memory;
 use crate::type_word::dtype_of;
 use csv::ByteRecord;
 use gb_base::data_type::DataType;
+use gb_base::name_set::NameSet;
 use gb_base::small_str::PlSmallStr;
 use std::alloc::{AllocError, Global};
-use std::collections::HashSet;
 
 // The name and the type of the column that a header field names.
 fn read_head(field: &str) -> (&str, DataType)
@@ -83,7 +83,7 @@ pub fn columns_of_header(
         IfErr result (λ e. IsRefusedTable e (builders_of asked (fields_of header.now))) }
 {
     let mut columns = Vec::with_capacity(alloc, header.len())?;
-    let mut seen: HashSet<&str> = HashSet::new(alloc);
+    let mut seen = NameSet::new(alloc);
     for field in header {
         let place = columns.len() as u64 + 1;
         let Some((name, dtype)) = read_field(field) else {

@@ -15,6 +15,7 @@ ghost use Rattle.gb_text.specs.Plain.{BeginsWith, TakesFront, TakesLine};
 ghost use Rattle.gb_text.specs.Refusal.{IsRefusedTable};
 
 use crate::status::TableError;
+use crate::table::blocks::Reading;
 use crate::table::builder::ColumnBuilder;
 use crate::table::cell::{cell_of, digits_cell};
 use crate::table::frame_of;
@@ -138,15 +139,16 @@ pub fn plain_table<R: Threads + Sync>(
     rt: &R,
     alloc: Global,
     bytes: &[u8],
-    null_word: &str,
-    names: &[&str],
+    reading: &Reading<'_>,
     parts: usize,
 ) -> Result<Option<DataFrame>, TableError>
     requires few { length bytes.now ≤ 4294967295 }
     requires some { 1 ≤ parts }
-    ensures ok { let read = asked_table (names_in names.now) bytes.now null_word.now in
-        IfOk result (λ found. IfSome found (λ frame. read ≡ Ok (map rechunked frame))) }
-    ensures err { IfErr result (λ e. IsRefusedTable e (table bytes.now null_word.now)) }
+    ensures ok { let names = names_in reading.now.names.now in
+        IfOk result (λ found. IfSome found (λ frame.
+        asked_table names bytes.now reading.now.null_word.now ≡ Ok (map rechunked frame))) }
+    ensures err { IfErr result (λ e.
+        IsRefusedTable e (table bytes.now reading.now.null_word.now)) }
 {
     let text = without_mark(bytes);
     if text.is_empty() || is_line_end(text[0]) {
@@ -157,14 +159,14 @@ pub fn plain_table<R: Threads + Sync>(
     };
     let lines = Lines {
         header: &header,
-        names,
-        null_word,
+        names: reading.names,
+        null_word: reading.null_word,
         text,
         ascii: text.is_ascii(),
     };
     let Some(columns) = lines.read_to(rt, alloc, text.len(), parts)? else {
         return Ok(None);
     };
-    let grown = grown_columns(columns)?;
+    let grown = grown_columns(columns, reading.seed)?;
     Ok(Some(frame_of(grown)?))
 }

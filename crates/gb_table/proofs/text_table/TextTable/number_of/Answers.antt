@@ -10,13 +10,13 @@ pub invariant_of-self-in-Free : goal.invariant_of-self-in-Free
 invariant_of-self-in-Free c =
     let keys = c.self.inside.keys.items in
     let texts = c.self.inside.texts in
-    let spot = rw c.deref-2.ensures.value at c.in-Free.ensures in
+    let spot = rw (c.deref-2.ensures.value, c.new-key.ensures) at c.in-Free.ensures in
     let roomy = rw c.deref.ensures.value at c.in_ok-make_slots.ensures.roomy in
     let room = rw c.deref.ensures.value at c.in_ok-make_slots.ensures.room in
     let few : length texts < 4294967295 = omega (arith, c.requires, ap length c.self.view_is) in
     let last : c.len-number.result ≡ length keys = omega (arith, c.len-number.ensures) in
     rw (c.push_reserved.ensures.items, c.in_ok-reserve-in-Free.ensures.items, c.new-key.ensures, c.in_ok-push-in-Free.ensures.ok)
-    (text_put c.make_slots.new.slots.items keys texts c.args.text.now c.in-Free.at c.len-number.result roomy room c.self.invariant.keyed c.self.invariant.differ c.self.invariant.utf8 c.utf8.text few spot.0 spot.1 last)
+    (text_put c.self.inside.seed c.make_slots.new.slots.items keys texts c.args.text.now c.in-Free.at c.len-number.result roomy room c.self.invariant.keyed c.self.invariant.differ c.self.invariant.utf8 c.utf8.text few spot.0 spot.1 last)
 
 -- a text that was not taken in leaves the slots with their room
 pub invariant_of-self-in_err-push-in-Free : goal.invariant_of-self-in_err-push-in-Free
@@ -41,7 +41,7 @@ pub returns-in_ok-push-in-Free-clause-number : goal.returns-in_ok-push-in-Free-c
 returns-in_ok-push-in-Free-clause-number c =
     let texts = c.self.inside.texts in
     let text = c.args.text.now in
-    let many = many_keys c.self.inside.keys.items texts text c.self.invariant.keyed in
+    let many = many_keys c.self.inside.seed c.self.inside.keys.items texts c.self.invariant.keyed in
     let last : length texts ≡ c.len-number.result = omega (arith, c.len-number.ensures, many) in
     ap (position (bytes_eq text)) c.in_ok-push-in-Free.ensures.ok ∙ position_pushed (bytes_eq text) texts text c.in-Free.ensures.1 ((bytes_decides text text).1 refl)
     ∙ ap (λ n. Some n) last

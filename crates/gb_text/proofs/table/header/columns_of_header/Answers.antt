@@ -1,11 +1,13 @@
 use Rattle.std.proofs.Common.{◌≡◌, ◌∙◌, ◌+◌, suc, ℕ, List, Some, sym, ap, true, cond, arith}
+use Rattle.std.specs.List.{list_any}
 use Rattle.std.specs.Str.{bytes_eq}
 use Rattle.csv.specs.Records.{fields_of}
 use Rattle.gb_defs.specs.Table.{Head}
 use Rattle.gb_base.specs.DataType.{type_of}
 use Rattle.gb_text.specs.Asked.{is_asked, names_in}
 use Rattle.gb_text.specs.Head.{readable_field}
-use Rattle.gb_text.proofs.HeaderLemmas.{holds, held, unheld, header_start, header_end, header_unread, header_repeated, header_more}
+use Rattle.gb_base.proofs.NameLemmas.{held, unheld}
+use Rattle.gb_text.proofs.HeaderLemmas.{header_start, header_end, header_unread, header_repeated, header_more}
 use Rattle.gb_text.proofs.table.header.columns_of_header.Goals as goal
 
 pub loop-field-init : goal.loop-field-init
@@ -15,8 +17,8 @@ loop-field-init c =
       tt,
       record {
         same = start.0;
-        made = rw start.1 (header_start (is_asked (names_in c.args.names.now)) (fields_of c.args.header.now) c.in_ok-columns.columns.items c.new-seen.result.keys
-            c.in_ok-columns.ensures.items c.new-seen.ensures.empty);
+        made = rw start.1 (header_start (is_asked (names_in c.args.names.now)) (fields_of c.args.header.now) c.in_ok-columns.columns.items c.new-seen.result
+            c.in_ok-columns.ensures.items c.new-seen.ensures);
       },
     )
 
@@ -25,7 +27,7 @@ returns-in_default-clause-err c =
     let inv = c.loop-field.invariant.2 in
     let read = rw inv.same at (sym c.in-Some.ensures.steps.1) in
     let place : c.len-in-loop-field.result + 1 ≡ suc c.loop-field.field-iterator.at = omega (arith, inv.made.count) in
-    rw place (header_unread (is_asked (names_in c.args.names.now)) (fields_of c.args.header.now) c.loop-field.field-iterator.at c.loop-field.columns.items c.loop-field.seen.keys inv.made c.in-Some.field.now read
+    rw place (header_unread (is_asked (names_in c.args.names.now)) (fields_of c.args.header.now) c.loop-field.field-iterator.at c.loop-field.columns.items c.loop-field.seen inv.made c.in-Some.field.now read
     (sym c.in_default.ensures.value))
 
 pub returns-then-not-branch-clause-err : goal.returns-then-not-branch-clause-err
@@ -33,9 +35,9 @@ returns-then-not-branch-clause-err c =
     let inv = c.loop-field.invariant.2 in
     let read = rw inv.same at (sym c.in-Some.ensures.steps.1) in
     let head : Head = record { name = c.in-Some-read_field.name.now; dtype = type_of c.in-Some-read_field.dtype } in
-    let known : holds c.loop-field.seen.keys c.in-Some-read_field.name.now ≡ true = held _ _ c.in_ok-insert.ensures.added c.if-not-branch.true in
+    let known : list_any (bytes_eq c.in-Some-read_field.name.now) c.loop-field.seen ≡ true = held _ _ c.in_ok-insert.ensures.new c.if-not-branch.true in
     let place : c.len-in-loop-field.result + 1 ≡ suc c.loop-field.field-iterator.at = omega (arith, inv.made.count) in
-    rw place (header_repeated (is_asked (names_in c.args.names.now)) (fields_of c.args.header.now) c.loop-field.field-iterator.at c.loop-field.columns.items c.loop-field.seen.keys inv.made c.in-Some.field.now read
+    rw place (header_repeated (is_asked (names_in c.args.names.now)) (fields_of c.args.header.now) c.loop-field.field-iterator.at c.loop-field.columns.items c.loop-field.seen inv.made c.in-Some.field.now read
     head (sym c.in-Some-read_field.ensures.value) known)
 
 pub loop-field-preserved : goal.loop-field-preserved
@@ -45,11 +47,9 @@ loop-field-preserved c =
     let read = rw inv.same at (sym steps.1) in
     let head : Head = record { name = c.in-Some-read_field.name.now; dtype = type_of c.in-Some-read_field.dtype } in
     let is : readable_field c.in-Some.field.now ≡ Some head = sym c.in-Some-read_field.ensures.value in
-    let fresh = unheld (holds c.loop-field.seen.keys c.in-Some-read_field.name.now) _ c.in_ok-insert.ensures.added c.if-not-branch.false in
-    let update : (name : List ℕ) → holds c.insert.new.self.keys name ≡ cond (bytes_eq c.in-Some-read_field.name.now name) true (holds c.loop-field.seen.keys name)
-    = λ name. c.in_ok-insert.ensures.updates.0 (record { ref_ptr = (0, 0); now = name }) in
-    let more = header_more (is_asked (names_in c.args.names.now)) (fields_of c.args.header.now) c.loop-field.field-iterator.at c.loop-field.columns.items c.loop-field.seen.keys inv.made c.in-Some.field.now read
-    head is c.insert.new.self.keys fresh update in
+    let fresh = unheld (list_any (bytes_eq c.in-Some-read_field.name.now) c.loop-field.seen) _ c.in_ok-insert.ensures.new c.if-not-branch.false in
+    let more = header_more (is_asked (names_in c.args.names.now)) (fields_of c.args.header.now) c.loop-field.field-iterator.at c.loop-field.columns.items c.loop-field.seen inv.made c.in-Some.field.now read
+    head is c.insert.new.self fresh c.in_ok-insert.ensures.names in
     let items = c.in_ok-push.ensures.items in (
       tt,
       tt,
@@ -63,4 +63,4 @@ pub returns-clause-ok : goal.returns-clause-ok
 returns-clause-ok c =
     let inv = c.loop-field.invariant.2 in
     let past = rw inv.same at c.in-None.ensures.steps.1 in
-    header_end (is_asked (names_in c.args.names.now)) (fields_of c.args.header.now) c.loop-field.field-iterator.at c.loop-field.columns.items c.loop-field.seen.keys inv.made past
+    header_end (is_asked (names_in c.args.names.now)) (fields_of c.args.header.now) c.loop-field.field-iterator.at c.loop-field.columns.items c.loop-field.seen inv.made past

@@ -15,7 +15,7 @@ read_to-requires-clause-few g c κs within =
     let begins = rw c.in-Some.is at c.in_ok-header.ensures in
     let some : 0 < length c.without_mark-text.result.now = grind (arith, nat_tests, c.if-is_empty.ensures) in
     let h = headed bytes c.without_mark-text.result.now (fields_of c.in-Some.header) c.in-Some.text.now c.without_mark-text.ensures some c.if-is_line_end.ensures.no begins in
-    omega (arith, c.requires.few, rest_short (names_in c.args.names.now) c.args.null_word.now bytes (fields_of c.in-Some.header) c.in-Some.text.now h)
+    omega (arith, c.requires.few, rest_short (names_in c.args.reading.now.names.now) c.args.reading.now.null_word.now bytes (fields_of c.in-Some.header) c.in-Some.text.now h)
 
 pub returns-in_err-columns-clause-err : goal.returns-in_err-columns-clause-err
 returns-in_err-columns-clause-err g c =
@@ -24,8 +24,8 @@ returns-in_err-columns-clause-err g c =
     let some : 0 < length c.without_mark-text.result.now = grind (arith, nat_tests, c.if-is_empty.ensures) in
     let h = headed bytes c.without_mark-text.result.now (fields_of c.in-Some.header) c.in-Some.text.now c.without_mark-text.ensures some c.if-is_line_end.ensures.no begins in
     let p = err_from_is_err_and c.from_residual-in_err-columns.result c.from_residual-in_err-columns.ensures.1 in
-    rw (p.1, p.2) (refused_too c.in_err-columns.field-0.0 (columns_of_header (is_asked (names_in c.args.names.now)) (fields_of c.in-Some.header)) (table bytes c.args.null_word.now)
-    (plain_no_columns (names_in c.args.names.now) c.args.null_word.now bytes (fields_of c.in-Some.header) c.in-Some.text.now h) c.in_err-columns.ensures.err)
+    rw (p.1, p.2) (refused_too c.in_err-columns.field-0.0 (columns_of_header (is_asked (names_in c.args.reading.now.names.now)) (fields_of c.in-Some.header)) (table bytes c.args.reading.now.null_word.now)
+    (plain_no_columns (names_in c.args.reading.now.names.now) c.args.reading.now.null_word.now bytes (fields_of c.in-Some.header) c.in-Some.text.now h) c.in_err-columns.ensures.err)
 
 pub grown_columns-requires : goal.grown_columns-requires
 grown_columns-requires g c =
@@ -34,7 +34,7 @@ grown_columns-requires g c =
     let some : 0 < length c.without_mark-text.result.now = grind (arith, nat_tests, c.if-is_empty.ensures) in
     let h = headed bytes c.without_mark-text.result.now (fields_of c.in-Some.header) c.in-Some.text.now c.without_mark-text.ensures some c.if-is_line_end.ensures.no begins in
     let part = rw c.in-Some-2.is at c.in_ok-columns.ensures.ok in
-    plain_whole (names_in c.args.names.now) c.args.null_word.now bytes (fields_of c.in-Some.header) c.in-Some.text.now h c.in-Some-2.columns.items part c.requires.few
+    plain_whole (names_in c.args.reading.now.names.now) c.args.reading.now.null_word.now bytes (fields_of c.in-Some.header) c.in-Some.text.now h c.in-Some-2.columns.items part c.requires.few
 
 pub frame_of-requires-clause-whole : goal.frame_of-requires-clause-whole
 frame_of-requires-clause-whole g c =
@@ -43,7 +43,7 @@ frame_of-requires-clause-whole g c =
     let some : 0 < length c.without_mark-text.result.now = grind (arith, nat_tests, c.if-is_empty.ensures) in
     let h = headed bytes c.without_mark-text.result.now (fields_of c.in-Some.header) c.in-Some.text.now c.without_mark-text.ensures some c.if-is_line_end.ensures.no begins in
     let part = rw (← c.in_ok-grown.ensures) at (rw c.in-Some-2.is at c.in_ok-columns.ensures.ok) in
-    plain_whole (names_in c.args.names.now) c.args.null_word.now bytes (fields_of c.in-Some.header) c.in-Some.text.now h c.in_ok-grown.grown.items part c.requires.few
+    plain_whole (names_in c.args.reading.now.names.now) c.args.reading.now.null_word.now bytes (fields_of c.in-Some.header) c.in-Some.text.now h c.in_ok-grown.grown.items part c.requires.few
 
 pub frame_of-requires-clause-frame : goal.frame_of-requires-clause-frame
 frame_of-requires-clause-frame g c =
@@ -52,7 +52,7 @@ frame_of-requires-clause-frame g c =
     let some : 0 < length c.without_mark-text.result.now = grind (arith, nat_tests, c.if-is_empty.ensures) in
     let h = headed bytes c.without_mark-text.result.now (fields_of c.in-Some.header) c.in-Some.text.now c.without_mark-text.ensures some c.if-is_line_end.ensures.no begins in
     let part = rw (← c.in_ok-grown.ensures) at (rw c.in-Some-2.is at c.in_ok-columns.ensures.ok) in
-    plain_frame (names_in c.args.names.now) c.args.null_word.now bytes (fields_of c.in-Some.header) c.in-Some.text.now h c.in_ok-grown.grown.items part
+    plain_frame (names_in c.args.reading.now.names.now) c.args.reading.now.null_word.now bytes (fields_of c.in-Some.header) c.in-Some.text.now h c.in_ok-grown.grown.items part
 
 pub returns-clause-ok : goal.returns-clause-ok
 returns-clause-ok g c =
@@ -61,4 +61,4 @@ returns-clause-ok g c =
     let some : 0 < length c.without_mark-text.result.now = grind (arith, nat_tests, c.if-is_empty.ensures) in
     let h = headed bytes c.without_mark-text.result.now (fields_of c.in-Some.header) c.in-Some.text.now c.without_mark-text.ensures some c.if-is_line_end.ensures.no begins in
     let part = rw (← c.in_ok-grown.ensures) at (rw c.in-Some-2.is at c.in_ok-columns.ensures.ok) in
-    plain_end (names_in c.args.names.now) c.args.null_word.now bytes (fields_of c.in-Some.header) c.in-Some.text.now h c.in_ok-grown.grown.items part ∙ ap (λ f. Ok f) (sym c.in_ok-frame_of.ensures)
+    plain_end (names_in c.args.reading.now.names.now) c.args.reading.now.null_word.now bytes (fields_of c.in-Some.header) c.in-Some.text.now h c.in_ok-grown.grown.items part ∙ ap (λ f. Ok f) (sym c.in_ok-frame_of.ensures)
