@@ -1,6 +1,5 @@
 -- Aggregates over parts of the groups, and the parts behind one another.
 use Rattle.std.proofs.Common.{◌≡◌, ℕ, ◌+◌, ◌<◌, ◌≤◌, suc, List, [], ◌∷◌, ◌++◌, All, None, length, map, take, drop, get_or, refl, sym, ap, subst, ◌∙◌, arith, append-nil, append_assoc}
-use Rattle.std.proofs.Math.Seq.{take-length}
 use Rattle.std.proofs.lemmas.List.{drop-map, length-append, length-drop, length-map, length-take-le, take-map}
 use Rattle.std.proofs.lemmas.List.Elements.{All-drop, All-take}
 use Rattle.std.proofs.lemmas.Simd.{map-map}
@@ -18,14 +17,9 @@ use Rattle.gb_flat.proofs.ShareLemmas.{shares_joined}
 use Rattle.gb_series.specs.Series.{value_of}
 use Rattle.gb_series.specs.declared.series.Series.{Series}
 use Rattle.gb_agg.specs.Folds.{AreGroupsOf, IsAggregateOf, folded, joined_content, slots_of_parts}
-use Rattle.gb_agg.specs.GroupPart.{part_from}
+use Rattle.gb_groups.specs.Views.{part_from}
 use Rattle.gb_agg.specs.Method.{method_of}
 use Rattle.gb_agg.specs.declared.method.GroupByMethod.{GroupByMethod}
-
--- all groups are a part
-pub part_whole : (g : Grouping) (n : ℕ) → n ≡ length g.pairs → part_from g 0 n ≡ g
-part_whole g n all =
-    ap (λ (ps : List (ℕ × List ℕ)). record { pairs = ps; form = g.form; flagged = g.flagged }) (ap (λ k. take k g.pairs) all ∙ take-length g.pairs)
 
 -- the lists of a part are a part of the lists
 lists_part : (g : Grouping) (start count : ℕ) → lists_in (part_from g start count) ≡ take count (drop start (lists_in g))

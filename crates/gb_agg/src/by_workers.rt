@@ -9,7 +9,7 @@ ghost use Rattle.gb_base.specs.PolarsError.{Explains};
 ghost use Rattle.gb_groups.specs.GroupsType.{groups_of};
 ghost use Rattle.gb_series.specs.Series.{value_of};
 ghost use Rattle.gb_agg.specs.Folds.{AreGroupsOf, IsAggregateOf, folded, joined_content, slots_of_parts, unfit_of};
-ghost use Rattle.gb_agg.specs.GroupPart.{part_from};
+ghost use Rattle.gb_groups.specs.Views.{part_from};
 ghost use Rattle.gb_agg.specs.Method.{goes_by_parts, method_of};
 
 use crate::aggregate::aggregate;

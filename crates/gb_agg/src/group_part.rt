@@ -17,7 +17,8 @@ pub struct GroupPart<'a> {
 impl<'a> GroupPart<'a> {
     ghost use Rattle.std.specs.Prelude.{◌≡◌, ◌<◌, [], slice_index_or};
     ghost use Rattle.gb_groups.specs.GroupsIndicator.{pair_of};
-    ghost use Rattle.gb_agg.specs.GroupPart.{part_from, part_of};
+    ghost use Rattle.gb_agg.specs.GroupPart.{part_of};
+    ghost use Rattle.gb_groups.specs.Views.{part_from};
 
     pub fn new(groups: &'a GroupsType, start: usize, count: usize) -> GroupPart<'a>
         requires { start + count ≤ length (groups_of groups.now).pairs }

@@ -1,8 +1,12 @@
 pub mod FirstLemmas
+pub mod FitLemmas
 pub mod ItemLemmas
 pub mod BucketLemmas
 pub mod NumberLemmas
 pub mod OrderLemmas
+pub mod SameLemmas
 pub mod PartLemmas
 pub mod SliceLemmas
+pub mod ViewLemmas
+pub mod WorkerLemmas
 pub mod OnceLemmas

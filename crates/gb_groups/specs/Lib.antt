@@ -1,4 +1,5 @@
 pub mod Buckets
+pub mod Calls
 pub mod Groups
 pub mod GroupsIndicator
 pub mod GroupsType
@@ -7,3 +8,6 @@ pub mod Numbers
 pub mod Order
 pub mod Parts
 pub mod Slices
+pub mod Views
+pub mod Same
+pub mod Workers

@@ -1,13 +1,15 @@
 //! Groups as first rows and row lists, flagged where the first rows are known never to descend.
 
-ghost use Rattle.std.specs.Prelude.{◌≡◌, ◌<◌, [], length, IsTrue, ◌↔◌, ◌==◌, true, false, map, slice_index_or, IfOk, IfErr, OnOk, OnErr};
+ghost use Rattle.std.specs.Prelude.{◌≡◌, ◌+◌, ◌<◌, ◌≤◌, [], drop, length, IsTrue, ◌↔◌, ◌==◌, true, false, map, slice_index_or, take, IfOk, IfErr, OnOk, OnErr};
 ghost use Rattle.std.specs.List.Sorted.{IsNonDecreasing};
 ghost use Rattle.gb_base.specs.PlSmallStr.{IsNoMemory};
-ghost use Rattle.gb_defs.specs.Groups.{first_of, idx_groups, lists_in};
+ghost use Rattle.gb_defs.specs.Groups.{Idx, first_of, idx_groups, lists_in};
 ghost use Rattle.gb_flat.specs.Buffers.{joined};
 
+use crate::by_workers::map_places;
 use crate::items::{join_parts, push_items, spread_parts, take_items};
 use crate::iter::GroupsIdxIter;
+use crate::same::{copy_lists, copy_of, part_of, same_lists};
 use gb_base::error::PolarsResult;
 pub use gb_base::nullable_idx::IdxSize;
 use gb_base::pool::Pool;
@@ -47,9 +49,37 @@ impl Model for GroupsIdx {
     ghost invariant = { λ g. (length g.first.items ≡ length g.all.items) × (IsTrue g.sorted → IsNonDecreasing g.first.items) };
 }
 
+impl PartialEq for GroupsIdx {
+    ghost use Rattle.std.specs.Prelude.{◌≡◌, ◌↔◌, IsTrue};
+    ghost use Rattle.std.specs.Cmp.{partial_equiv_from_equiv};
+    ghost use Rattle.gb_groups.specs.Same.{same_equiv, same_groups};
+
+    ghost eq = { same_groups };
+
+    ghost laws = { partial_equiv_from_equiv same_equiv };
+
+    fn eq(&self, other: &GroupsIdx) -> bool {
+        self.sorted == other.sorted
+            && same_lists(
+                self.first.as_slice(),
+                self.all.as_slice(),
+                other.first.as_slice(),
+                other.all.as_slice(),
+            )
+    }
+}
+
+impl Eq for GroupsIdx {
+    ghost use Rattle.gb_groups.specs.Same.{same_equiv};
+
+    ghost laws = { same_equiv };
+}
+
 impl GroupsIdx {
     ghost use Rattle.gb_groups.specs.Groups.{lists_of, lent_pair, paired, pairs_of};
+    ghost use Rattle.gb_groups.specs.Calls.{GivesOfList, GivesOfLists, TakesLists};
     ghost use Rattle.gb_groups.specs.Order.{IsByFirst};
+    ghost use Rattle.gb_groups.specs.Views.{part_from};
 
     /// No groups, not flagged as sorted.
     pub fn empty(alloc: Global) -> GroupsIdx
@@ -169,6 +199,65 @@ impl GroupsIdx {
         GroupsIdxIter::new(self.first.as_slice(), self.all.as_slice())
     }
 
+    /// What `f` gives for the first row and the rows of each group, in order, by as many workers as the pool
+    /// has, each some groups that follow each other. With one worker no thread is started.
+    pub fn map_par<R: Threads + Sync, X: Send + Drop, F: Fn(IdxSize, &IdxVec) -> X + Sync>(
+        &self,
+        rt: &R,
+        alloc: Global,
+        pool: &Pool,
+        f: &F,
+    ) -> PolarsResult<Vec<X>>
+        requires { TakesLists F.Fn f.now self.now.pairs }
+        ensures len { IfOk result (λ made. length made.items ≡ length self.now.pairs) }
+        ensures each { IfOk result (λ made. GivesOfLists F.Fn f.now self.now.pairs made.items) }
+        ensures err { IfErr result IsNoMemory }
+    {
+        let call = |place: usize| -> X
+            requires { (place < length self.now.pairs) × TakesLists F.Fn f.now self.now.pairs }
+            ensures { GivesOfList F.Fn f.entry.now
+                (slice_index_or self.entry.now.pairs place (0, [])) result }
+        {
+            let (first, rows) = self.get(place);
+            f(first, rows)
+        };
+        map_places(rt, alloc, self.len(), pool, &call)
+    }
+
+    /// The first rows and the row lists of so many groups from a place on.
+    pub(crate) fn lists(&self, start: usize, count: usize) -> (&[IdxSize], &[IdxVec])
+        requires { start + count ≤ length self.now.pairs }
+        ensures pairs { paired result.0.now result.1.now
+            ≡ take count (drop start self.now.pairs) }
+        ensures each { length result.0.now ≡ length result.1.now }
+        ensures ascend { IsTrue self.now.flagged → IsNonDecreasing result.0.now }
+    {
+        (
+            part_of(self.first.as_slice(), start, count),
+            part_of(self.all.as_slice(), start, count),
+        )
+    }
+
+    /// So many groups from a place on, copied, and flagged as all are.
+    pub(crate) fn part(&self, alloc: Global, start: usize, count: usize) -> PolarsResult<GroupsIdx>
+        requires { start + count ≤ length self.now.pairs }
+        ensures ok { IfOk result (λ g. g ≡ part_from self.now start count) }
+        ensures err { IfErr result IsNoMemory }
+    {
+        let (first, all) = self.lists(start, count);
+        let first = copy_of(alloc, first)?;
+        let all = copy_lists(alloc, all)?;
+        Ok(GroupsIdx::new(first, all, self.sorted))
+    }
+
+    /// The same groups once more.
+    pub fn try_clone(&self) -> PolarsResult<GroupsIdx>
+        ensures ok { IfOk result (λ g. g ≡ self.now) }
+        ensures err { IfErr result IsNoMemory }
+    {
+        self.part(*self.first.allocator(), 0, self.len())
+    }
+
     /// Puts the groups in the order of their first rows. Groups of one first row keep their order.
     pub fn sort(&mut self) -> PolarsResult<()>
         ensures sorted { OnOk result (IsByFirst self.old.pairs self.new.pairs) }
@@ -191,6 +280,7 @@ impl GroupsIdx {
 
     /// Whether the groups are flagged as sorted. Unflagged groups may be in order too.
     pub fn is_sorted_flag(&self) -> bool
+        ensures form { self.now.form ≡ Idx }
         ensures flag { result ≡ self.now.flagged }
         ensures ascend { IsTrue result → IsNonDecreasing (map first_of self.now.pairs) }
     {
@@ -199,16 +289,16 @@ impl GroupsIdx {
 }
 
 #[cfg(test)]
-mod tests {
+pub(crate) mod tests {
     use super::*;
     use crate::groups_type::GroupsType;
     use std::process::Abort;
     use std::test::Fail;
 
     /// A first row, and the rows of its group.
-    type Pair<'a> = (u32, &'a [u32]);
+    pub(crate) type Pair<'a> = (u32, &'a [u32]);
 
-    fn items(alloc: Global, pairs: &[Pair<'_>]) -> Result<Vec<IdxItem>, Fail> {
+    pub(crate) fn items(alloc: Global, pairs: &[Pair<'_>]) -> Result<Vec<IdxItem>, Fail> {
         let mut items: Vec<IdxItem> = Vec::new(alloc);
         for (first, rows) in pairs {
             items.push((*first, SmallVec::from_slice(alloc, *rows)?))?;

@@ -1,12 +1,14 @@
 //! Groups as runs of rows: of each its first row and its length.
 
-ghost use Rattle.std.specs.Prelude.{◌≡◌, ◌↔◌, map, IsTrue, IfErr, IfOk};
+ghost use Rattle.std.specs.Prelude.{◌≡◌, ◌↔◌, ◌+◌, ◌≤◌, drop, length, map, take, IsTrue, IfErr, IfOk};
 ghost use Rattle.gb_base.specs.PlSmallStr.{IsNoMemory};
 ghost use Rattle.gb_defs.specs.Groups.{first_of};
 ghost use Rattle.gb_groups.specs.Slices.{slice_pairs, SlicesFit};
 
+use crate::same::{copy_of, part_of};
 use gb_base::error::PolarsResult;
 use gb_base::nullable_idx::IdxSize;
+use std::alloc::Global;
 use std::marker::Model;
 
 /// Runs of rows, each `[start, length]`, that end at a row number. The starts never descend.
@@ -24,6 +26,26 @@ impl Model for GroupsSlice {
     ghost view = { λ g. g.slices.items };
 
     ghost invariant = { λ g. SlicesFit g.slices.items };
+}
+
+impl PartialEq for GroupsSlice {
+    ghost use Rattle.std.specs.Prelude.{nat_eq};
+    ghost use Rattle.std.specs.Cmp.{partial_equiv_from_equiv};
+    ghost use Rattle.std.specs.Cmp.Lexicographic.{lists_equiv, nat_list_eq_equiv, pointwise};
+
+    ghost eq = { pointwise (pointwise nat_eq) };
+
+    ghost laws = { partial_equiv_from_equiv (lists_equiv nat_list_eq_equiv) };
+
+    fn eq(&self, other: &GroupsSlice) -> bool {
+        self.slices == other.slices
+    }
+}
+
+impl Eq for GroupsSlice {
+    ghost use Rattle.std.specs.Cmp.Lexicographic.{lists_equiv, nat_list_eq_equiv};
+
+    ghost laws = { lists_equiv nat_list_eq_equiv };
 }
 
 impl GroupsSlice {
@@ -56,6 +78,38 @@ impl GroupsSlice {
         ensures value { result.now ≡ self.now }
     {
         self.slices.as_slice()
+    }
+
+    /// So many runs from a place on.
+    pub(crate) fn runs(&self, start: usize, count: usize) -> &[[IdxSize; 2]]
+        requires { start + count ≤ length self.now }
+        ensures fit { SlicesFit result.now }
+        ensures value { result.now ≡ take count (drop start self.now) }
+    {
+        part_of(self.slices.as_slice(), start, count)
+    }
+
+    /// So many runs from a place on, copied.
+    pub(crate) fn part(
+        &self,
+        alloc: Global,
+        start: usize,
+        count: usize,
+    ) -> PolarsResult<GroupsSlice>
+        requires { start + count ≤ length self.now }
+        ensures ok { IfOk result (λ g. g ≡ take count (drop start self.now)) }
+        ensures err { IfErr result IsNoMemory }
+    {
+        let slices = copy_of(alloc, self.runs(start, count))?;
+        Ok(GroupsSlice::from_vec(slices))
+    }
+
+    /// The same runs once more.
+    pub fn try_clone(&self) -> PolarsResult<GroupsSlice>
+        ensures ok { IfOk result (λ g. g ≡ self.now) }
+        ensures err { IfErr result IsNoMemory }
+    {
+        self.part(*self.slices.allocator(), 0, self.slices.len())
     }
 
     /// The first row of each group.

@@ -1,14 +1,20 @@
 //! Groups in the form that the path to them gave.
 
-ghost use Rattle.std.specs.Prelude.{◌≡◌, ◌<◌, ◌==◌, [], length, map, slice_index_or, IsTrue, true, IfErr, IfOk, OnOk, OnErr};
+ghost use Rattle.std.specs.Prelude.{◌≡◌, ◌↔◌, ◌<◌, ◌==◌, [], All, length, map, slice_index_or, IsTrue, true, IfErr, IfOk, OnOk, OnErr};
 ghost use Rattle.std.specs.List.Sorted.{IsNonDecreasing};
 ghost use Rattle.gb_base.specs.PlSmallStr.{IsNoMemory};
-ghost use Rattle.gb_defs.specs.Groups.{first_of, Idx};
+ghost use Rattle.gb_defs.specs.Groups.{FitsRows, IsWellFormed, first_of, Idx};
 
+use crate::fits::{rows_fit, run_fits};
 use crate::groups_idx::{BorrowIdxItem, GroupsIdx, IdxSize};
 use crate::groups_slice::GroupsSlice;
 use crate::iter::GroupsTypeIter;
+use crate::positions::GroupPositions;
+use crate::view::GroupsView;
 use gb_base::error::PolarsResult;
+use gb_base::pool::Pool;
+use std::alloc::Global;
+use std::thread::Threads;
 
 /// Groups in the form that the path to them gave.
 #[derive(Drop)]
@@ -54,6 +60,16 @@ impl<'a> GroupsIndicator<'a> {
             GroupsIndicator::Slice(slice) => slice[0],
         }
     }
+
+    /// Whether the first row and all rows are below `n`, and the rows ascend from the first row on.
+    pub fn fits(&self, n: usize) -> bool
+        ensures { IsTrue result ↔ FitsRows n (pair_of self.now) }
+    {
+        match self {
+            GroupsIndicator::Idx((first, rows)) => rows_fit(n, *first, rows.as_slice()),
+            GroupsIndicator::Slice(slice) => run_fits(n, *slice),
+        }
+    }
 }
 
 impl From<GroupsIdx> for GroupsType {
@@ -66,9 +82,32 @@ impl From<GroupsIdx> for GroupsType {
     }
 }
 
+impl PartialEq for GroupsType {
+    ghost use Rattle.std.specs.Cmp.{on_equiv, partial_equiv_from_equiv};
+    ghost use Rattle.gb_groups.specs.GroupsType.{groups_of};
+    ghost use Rattle.gb_groups.specs.Same.{same_equiv, same_groups};
+
+    ghost eq = { λ one other. same_groups (groups_of one) (groups_of other) };
+
+    ghost laws = { partial_equiv_from_equiv (on_equiv groups_of same_equiv) };
+
+    fn eq(&self, other: &GroupsType) -> bool {
+        self.whole() == other.whole()
+    }
+}
+
+impl Eq for GroupsType {
+    ghost use Rattle.std.specs.Cmp.{on_equiv};
+    ghost use Rattle.gb_groups.specs.GroupsType.{groups_of};
+    ghost use Rattle.gb_groups.specs.Same.{same_equiv};
+
+    ghost laws = { on_equiv groups_of same_equiv };
+}
+
 impl GroupsType {
     ghost use Rattle.gb_groups.specs.GroupsType.{groups_of};
     ghost use Rattle.gb_groups.specs.GroupsIndicator.{pair_of};
+    ghost use Rattle.gb_groups.specs.Calls.{GivesOfGroups, TakesGroups};
     ghost use Rattle.gb_groups.specs.Order.{IsByFirst};
 
     /// How many groups there are.
@@ -153,6 +192,69 @@ impl GroupsType {
         }
     }
 
+    /// All groups.
+    pub(crate) fn whole(&self) -> GroupsView<'_>
+        ensures { result ≡ groups_of self.now }
+    {
+        GroupsView::new(self, 0, self.len())
+    }
+
+    /// What `f` gives for each group, in order, by as many workers as the pool has, each some groups that
+    /// follow each other. With one worker no thread is started.
+    pub fn par_map<R: Threads + Sync, X: Send + Drop, F: Fn(GroupsIndicator<'_>) -> X + Sync>(
+        &self,
+        rt: &R,
+        alloc: Global,
+        pool: &Pool,
+        f: &F,
+    ) -> PolarsResult<Vec<X>>
+        requires { TakesGroups F.Fn f.now (groups_of self.now).pairs }
+        ensures len { IfOk result (λ made.
+            length made.items ≡ length (groups_of self.now).pairs) }
+        ensures each { IfOk result (λ made.
+            GivesOfGroups F.Fn f.now (groups_of self.now).pairs made.items) }
+        ensures err { IfErr result IsNoMemory }
+    {
+        self.whole().par_map(rt, alloc, pool, f)
+    }
+
+    /// Whether every first row and every row is below `n`, and the rows of each group ascend from its
+    /// first row on. One pass over the rows of lists, and over the ends of runs.
+    pub fn fits(&self, n: usize) -> bool
+        ensures { IsTrue result ↔ All (FitsRows n) (groups_of self.now).pairs }
+    {
+        self.whole().fits(n)
+    }
+
+    /// Whether the groups fit `n` rows, and none is empty.
+    pub fn is_well_formed(&self, n: usize) -> bool
+        ensures { IsTrue result ↔ IsWellFormed n (groups_of self.now).pairs }
+    {
+        self.whole().is_well_formed(n)
+    }
+
+    /// The same groups once more.
+    pub fn try_clone(&self) -> PolarsResult<GroupsType>
+        ensures ok { IfOk result (λ g. g ≡ self.now) }
+        ensures err { IfErr result IsNoMemory }
+    {
+        match self {
+            GroupsType::Idx(groups) => Ok(GroupsType::Idx(groups.try_clone()?)),
+            GroupsType::Slice { groups, rolling } => Ok(GroupsType::Slice {
+                groups: groups.try_clone()?,
+                rolling: *rolling,
+            }),
+        }
+    }
+
+    /// All groups, to be cut and shared.
+    pub fn into_sliceable(self, alloc: Global) -> PolarsResult<GroupPositions>
+        ensures ok { IfOk result (λ positions. positions ≡ groups_of self) }
+        ensures err { IfErr result IsNoMemory }
+    {
+        GroupPositions::over(alloc, self)
+    }
+
     /// The groups as row lists.
     pub fn unwrap_idx(&self) -> &GroupsIdx
         requires { (groups_of self.now).form ≡ Idx }
@@ -170,7 +272,6 @@ mod tests {
     use super::*;
     use crate::groups_idx::IdxVec;
     use smallvec::SmallVec;
-    use std::alloc::Global;
     use std::test::Fail;
 
     // Rows 0 and 2, and row 1.

@@ -3,11 +3,16 @@
 //! grouped.
 #![tactic(auto)]
 
+mod by_workers;
+mod fits;
 pub mod groups_idx;
 pub mod groups_slice;
 pub mod groups_type;
 mod items;
 pub mod iter;
 pub mod order;
+pub mod positions;
 mod row_buckets;
 pub mod row_lists;
+mod same;
+pub mod view;

@@ -63,7 +63,8 @@ pub(crate) fn bucket_rows<M: Members>(
 // A bucket for the rows of each so many groups, empty, with room for them.
 fn empty_buckets(alloc: Global, counts: &[IdxSize]) -> Result<Vec<RowBucket>, AllocError>
     ensures empty { IfOk result (λ buckets. AreBuckets [] [] buckets.items) }
-    ensures all { IfOk result (λ buckets. length buckets.items ≡ bucket_of (length counts.now) + 1) }
+    ensures all { IfOk result (λ buckets.
+        length buckets.items ≡ bucket_of (length counts.now) + 1) }
 {
     let count = counts.len() / NEAR_GROUPS + 1;
     let mut buckets = Vec::with_capacity(alloc, count)?;

@@ -6,7 +6,8 @@ use Rattle.gb_groups.specs.GroupsType.{groups_of}
 use Rattle.gb_series.specs.Series.{value_of}
 use Rattle.gb_agg.specs.Folds.{AreGroupsOf, folded}
 use Rattle.gb_agg.specs.Method.{method_of}
-use Rattle.gb_agg.proofs.GroupPartLemmas.{none_few, part_whole, parts_alike, parts_few, parts_joined}
+use Rattle.gb_groups.proofs.ViewLemmas.{part_whole}
+use Rattle.gb_agg.proofs.GroupPartLemmas.{none_few, parts_alike, parts_few, parts_joined}
 use Rattle.gb_agg.proofs.by_workers.aggregate_whole.Goals as goal
 
 pub aggregate-requires-clause-groups : goal.aggregate-requires-clause-groups

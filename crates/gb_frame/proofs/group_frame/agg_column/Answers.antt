@@ -10,7 +10,7 @@ use Rattle.gb_series.specs.Series.{value_of}
 use Rattle.gb_agg.specs.Folds.{fold_column, list_of_rows}
 use Rattle.gb_agg.specs.Lists.{HaveNumbers}
 use Rattle.gb_agg.specs.Method.{method_of}
-use Rattle.gb_agg.proofs.GroupPartLemmas.{part_whole}
+use Rattle.gb_groups.proofs.ViewLemmas.{part_whole}
 use Rattle.gb_agg.proofs.ListedLemmas.{rows_numbered}
 use Rattle.gb_frame.proofs.AggLemmas.{rows_aggregated}
 use Rattle.gb_frame.proofs.group_frame.agg_column.Goals as goal
