@@ -36,7 +36,12 @@ fn built(alloc: Global) -> PolarsResult<CategoricalChunked> {
     if texts.len() > 99 {
         return Err(PolarsError::NoMemory);
     }
-    let mut builder = CategoricalBuilder::new(alloc, name_of(alloc)?, CategoricalOrdering::Lexical, 7);
+    let mut builder = CategoricalBuilder::new(
+        alloc,
+        name_of(alloc)?,
+        CategoricalOrdering::Lexical,
+        7,
+    );
     builder.push_texts(&texts)?;
     if builder.len() > 99 {
         return Err(PolarsError::NoMemory);
@@ -55,7 +60,12 @@ fn takes(builder: &mut CategoricalBuilder, cell: &[u8]) -> PolarsResult<bool> {
 
 // The cells x, null, one that is no text, and x, as categories.
 fn read(alloc: Global) -> PolarsResult<CategoricalChunked> {
-    let mut builder = CategoricalBuilder::new(alloc, name_of(alloc)?, CategoricalOrdering::Lexical, 7);
+    let mut builder = CategoricalBuilder::new(
+        alloc,
+        name_of(alloc)?,
+        CategoricalOrdering::Lexical,
+        7,
+    );
     let texts = takes(&mut builder, b"x")? && takes(&mut builder, b"null")?;
     if !texts || takes(&mut builder, b"\xff")? || !takes(&mut builder, b"x")? {
         return Err(PolarsError::NoMemory);

@@ -185,10 +185,7 @@ fn append_categories(codes: &mut CategoricalBuilder, other: ColumnBuilder) -> Re
 }
 
 /// The same columns, categories by their codes, their texts hashed under the seed.
-pub fn grown_columns(
-    columns: Vec<ColumnBuilder>,
-    seed: u64,
-) -> Result<Vec<GrownColumn>, AllocError>
+pub fn grown_columns(columns: Vec<ColumnBuilder>, seed: u64) -> Result<Vec<GrownColumn>, AllocError>
     requires { All IsWhole columns.items }
     ensures { IfOk result (λ all.
         map in_one_chunk all.items ≡ map in_one_chunk columns.items) }
