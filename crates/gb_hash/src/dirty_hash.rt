@@ -1,7 +1,7 @@
 //! The hashes of words, of numbers by their bits, of bytes eight at a time, and of a null, and what makes
 //! them depend on a seed.
 
-ghost use Rattle.std.specs.Prelude.{◌≡◌, ℕ, ◌<◌, length};
+ghost use Rattle.std.specs.Prelude.{◌≡◌, ℕ, ◌<◌, length, slice_index};
 ghost use Rattle.std.specs.Int.{w64, from_le_bytes};
 ghost use Rattle.std.specs.List.{fold};
 ghost use Rattle.gb_defs.specs.Hash.{fold_word, hash_bytes, hash_halves, hash_number, null_hash, seed_mix, words_of};
@@ -147,13 +147,26 @@ fn with_rest<M: Mixer>(mixer: &M, hash: u64, rest: &[u8]) -> u64
     with_word(mixer, hash, last_word(rest))
 }
 
-// The last bytes, padded with zeros.
+// The last bytes, padded with zeros. No loop and no copy: most texts end here.
 #[inline]
 fn last_word(bytes: &[u8]) -> u64
     requires { length bytes.now < 8 }
     ensures { result ≡ from_le_bytes w64 bytes.now }
 {
-    let mut word = [0; 8];
-    word[..bytes.len()].copy_from_slice(bytes);
-    u64::from_le_bytes(word)
+    let low = byte_or_zero(bytes, 0) + 0x100 * byte_or_zero(bytes, 1);
+    let next = byte_or_zero(bytes, 2) + 0x100 * byte_or_zero(bytes, 3);
+    let high = byte_or_zero(bytes, 4) + 0x100 * byte_or_zero(bytes, 5);
+    low + 0x1_0000 * next + 0x1_0000_0000 * high + 0x1_0000_0000_0000 * byte_or_zero(bytes, 6)
+}
+
+// The byte at a place, and zero behind the last.
+#[inline]
+fn byte_or_zero(bytes: &[u8], place: usize) -> u64
+    ensures value { result ≡ slice_index bytes.now place }
+    ensures small { result < 256 }
+{
+    match bytes.get(place) {
+        Some(byte) => u64::from(*byte),
+        None => 0,
+    }
 }
