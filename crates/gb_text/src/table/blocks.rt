@@ -31,9 +31,9 @@ use std::alloc::{AllocError, Global};
 use std::mem::swap;
 use std::thread::Threads;
 
-/// How many bytes the first block has at most. With one worker each later one has at most twice as many as the
-/// one before.
-pub const FIRST_BLOCK: usize = 1_048_576;
+/// How many bytes the first block has at most, so that its lines are soon read. With one worker each later one has
+/// at most twice as many as the one before.
+pub const FIRST_BLOCK: usize = 131_072;
 
 /// What a table is read for, and how.
 #[derive(Clone, Copy)]

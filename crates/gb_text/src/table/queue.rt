@@ -14,7 +14,7 @@ ghost use Rattle.gb_text.specs.declared.status.Status.TheVariants as status;
 
 use crate::status::Status;
 use crate::streams::{Progress, fill};
-use crate::table::blocks::{FIRST_BLOCK, Reading, finish_all, keep_from, last_line};
+use crate::table::blocks::{Reading, finish_all, keep_from, last_line};
 use crate::table::grown::{GrownColumn, append_block};
 use crate::table::header::columns_of_header;
 use crate::table::jobs::{Block, Done, Job};
@@ -25,6 +25,10 @@ use std::alloc::{AllocError, Global};
 use std::collections::VecDeque;
 use std::mem::replace;
 use std::thread::Threads;
+
+// How many bytes a thread reads at most. No block has more than there were before it, so that all threads soon have
+// one.
+const THREAD_BLOCK: usize = 1_048_576;
 
 // The blocks that threads read, the oldest first, what is held behind them, and a room that is free.
 #[derive(Drop)]
@@ -290,7 +294,7 @@ fn step<R: Threads, S: Source>(
     if !turn(rt, alloc, reading, header, columns, ahead, now)? {
         return Ok((false, now));
     }
-    let enough = reading.block.min(FIRST_BLOCK);
+    let enough = reading.block.min(THREAD_BLOCK).min(now.read as usize);
     let next = fill(source, &mut ahead.held, now.read, limit, enough)?;
     Ok((true, next))
 }
