@@ -1,7 +1,6 @@
 pub mod Distinct
 pub mod Extremes
 pub mod Folds
-pub mod GroupPart
 pub mod Lists
 pub mod Method
 pub mod Numbered

@@ -11,11 +11,9 @@ ghost use Rattle.gb_flat_series.specs.FlatSeries.{column_of};
 ghost use Rattle.gb_series.specs.Series.{value_of};
 ghost use Rattle.gb_agg.specs.Extremes.{AreExtremes};
 ghost use Rattle.gb_agg.specs.Folds.{AreGroupsOf, extreme, fold_column, fold_in, folded, sums_of_column, unfit_of};
-ghost use Rattle.gb_agg.specs.GroupPart.{part_of};
 ghost use Rattle.gb_agg.specs.Method.{goes_by_parts, method_of};
 
 use crate::extremes::extreme_rows;
-use crate::group_part::GroupPart;
 use crate::group_sums::GroupSums;
 use crate::lists::{row_lists, slot_lists};
 use crate::method::GroupByMethod;
@@ -28,6 +26,7 @@ use gb_cols::primitive::UInt32Chunked;
 use gb_cols::series_trait::SeriesTrait;
 use gb_flat_series::series::FlatSeries;
 use gb_flat_series::{map_sums, of_column};
+use gb_groups::view::GroupsView;
 use gb_series::into_series::IntoSeries;
 use gb_series::series::Series;
 use std::alloc::Global;
@@ -37,14 +36,14 @@ use std::alloc::Global;
 pub(crate) fn aggregate(
     column: &Series,
     method: GroupByMethod,
-    groups: &GroupPart<'_>,
+    groups: &GroupsView<'_>,
 ) -> PolarsResult<Series>
     requires parts { goes_by_parts method ≡ true }
-    requires groups { AreGroupsOf (value_of column.now) (part_of groups.now) }
+    requires groups { AreGroupsOf (value_of column.now) groups.now }
     requires short { HasRowNumbers (length (value_of column.now).slots) }
     ensures fits { OnOk result (unfit_of (method_of method) (value_of column.now) ≡ None) }
     ensures ok { IfOk result (λ s. value_of s
-        ≡ folded (method_of method) (value_of column.now) (lists_in (part_of groups.now))) }
+        ≡ folded (method_of method) (value_of column.now) (lists_in groups.now)) }
     ensures err { IfErr result (λ e.
         Explains e (unfit_of (method_of method) (value_of column.now))) }
 {
@@ -64,12 +63,12 @@ pub(crate) fn aggregate(
 }
 
 // The slots at the rows that are picked.
-fn picked<P: RowPick>(column: &Series, pick: &P, groups: &GroupPart<'_>) -> PolarsResult<Series>
+fn picked<P: RowPick>(column: &Series, pick: &P, groups: &GroupsView<'_>) -> PolarsResult<Series>
     requires column { P.column pick.now ≡ value_of column.now }
-    requires groups { AreGroupsOf (value_of column.now) (part_of groups.now) }
+    requires groups { AreGroupsOf (value_of column.now) groups.now }
     requires short { HasRowNumbers (length (value_of column.now).slots) }
     ensures ok { let c = value_of column.now in IfOk result (λ s. value_of s
-        ≡ fold_column c.name c.dtype (P.fold pick.now) (lists_in (part_of groups.now))) }
+        ≡ fold_column c.name c.dtype (P.fold pick.now) (lists_in groups.now)) }
     ensures err { IfErr result IsNoMemory }
 {
     let rows = pick_groups(column.allocator(), pick, groups)?;
@@ -92,11 +91,11 @@ fn series_extremes(
     alloc: Global,
     column: &Series,
     greatest: bool,
-    groups: &GroupPart<'_>,
+    groups: &GroupsView<'_>,
 ) -> PolarsResult<Option<Vec<IdxSize>>>
-    requires groups { AreGroupsOf (value_of column.now) (part_of groups.now) }
+    requires groups { AreGroupsOf (value_of column.now) groups.now }
     requires short { HasRowNumbers (length (value_of column.now).slots) }
-    ensures ok { let lists = lists_in (part_of groups.now) in
+    ensures ok { let lists = lists_in groups.now in
         IfOk result (λ found. MatchOption found (has_least (value_of column.now).dtype ≡ false)
         (λ rows. AreExtremes greatest (value_of column.now) lists rows.items)) }
     ensures err { IfErr result IsNoMemory }
@@ -124,11 +123,11 @@ fn flat_extremes(
     alloc: Global,
     column: &FlatSeries,
     greatest: bool,
-    groups: &GroupPart<'_>,
+    groups: &GroupsView<'_>,
 ) -> PolarsResult<Option<Vec<IdxSize>>>
-    requires groups { AreGroupsOf (column_of column.now) (part_of groups.now) }
+    requires groups { AreGroupsOf (column_of column.now) groups.now }
     requires short { HasRowNumbers (length (column_of column.now).slots) }
-    ensures ok { let lists = lists_in (part_of groups.now) in
+    ensures ok { let lists = lists_in groups.now in
         IfOk result (λ found. MatchOption found (has_least (column_of column.now).dtype ≡ false)
         (λ rows. AreExtremes greatest (column_of column.now) lists rows.items)) }
     ensures err { IfErr result IsNoMemory }
@@ -137,12 +136,12 @@ fn flat_extremes(
 }
 
 // The least slots, or the greatest, unless the column's type has none.
-fn column_extremes(column: &Series, greatest: bool, groups: &GroupPart<'_>) -> PolarsResult<Series>
-    requires groups { AreGroupsOf (value_of column.now) (part_of groups.now) }
+fn column_extremes(column: &Series, greatest: bool, groups: &GroupsView<'_>) -> PolarsResult<Series>
+    requires groups { AreGroupsOf (value_of column.now) groups.now }
     requires short { HasRowNumbers (length (value_of column.now).slots) }
     ensures fits { OnOk result (unfit_of (extreme greatest) (value_of column.now) ≡ None) }
     ensures ok { IfOk result (λ s. value_of s
-        ≡ folded (extreme greatest) (value_of column.now) (lists_in (part_of groups.now))) }
+        ≡ folded (extreme greatest) (value_of column.now) (lists_in groups.now)) }
     ensures err { IfErr result (λ e.
         Explains e (unfit_of (extreme greatest) (value_of column.now))) }
 {
@@ -154,9 +153,9 @@ fn column_extremes(column: &Series, greatest: bool, groups: &GroupPart<'_>) -> P
 }
 
 // The sums of a column, None where its type has none.
-fn series_sums(column: &Series, groups: &GroupPart<'_>) -> PolarsResult<Option<Series>>
-    requires { AreGroupsOf (value_of column.now) (part_of groups.now) }
-    ensures ok { let lists = lists_in (part_of groups.now) in
+fn series_sums(column: &Series, groups: &GroupsView<'_>) -> PolarsResult<Option<Series>>
+    requires { AreGroupsOf (value_of column.now) groups.now }
+    ensures ok { let lists = lists_in groups.now in
         IfOk result (λ sums. option_map value_of sums
         ≡ sums_of_column (value_of column.now).name (value_of column.now) lists) }
     ensures err { IfErr result IsNoMemory }
@@ -187,10 +186,10 @@ fn series_sums(column: &Series, groups: &GroupPart<'_>) -> PolarsResult<Option<S
 fn flat_sums(
     name: PlSmallStr,
     column: &FlatSeries,
-    groups: &GroupPart<'_>,
+    groups: &GroupsView<'_>,
 ) -> PolarsResult<Option<FlatSeries>>
-    requires { AreGroupsOf (column_of column.now) (part_of groups.now) }
-    ensures ok { let lists = lists_in (part_of groups.now) in
+    requires { AreGroupsOf (column_of column.now) groups.now }
+    ensures ok { let lists = lists_in groups.now in
         IfOk result (λ sums. option_map column_of sums
         ≡ sums_of_column (name_of name) (column_of column.now) lists) }
     ensures err { IfErr result IsNoMemory }
@@ -199,11 +198,11 @@ fn flat_sums(
 }
 
 // The sums of a column, unless its type has none.
-fn column_sums(column: &Series, groups: &GroupPart<'_>) -> PolarsResult<Series>
-    requires groups { AreGroupsOf (value_of column.now) (part_of groups.now) }
+fn column_sums(column: &Series, groups: &GroupsView<'_>) -> PolarsResult<Series>
+    requires groups { AreGroupsOf (value_of column.now) groups.now }
     ensures fits { OnOk result (has_sum (value_of column.now).dtype ≡ true) }
     ensures ok { IfOk result (λ s. value_of s
-        ≡ folded Sum (value_of column.now) (lists_in (part_of groups.now))) }
+        ≡ folded Sum (value_of column.now) (lists_in groups.now)) }
     ensures err { IfErr result (λ e. Explains e (unfit_of Sum (value_of column.now))) }
 {
     match series_sums(column, groups)? {
@@ -213,11 +212,11 @@ fn column_sums(column: &Series, groups: &GroupPart<'_>) -> PolarsResult<Series>
 }
 
 // The rows of each group as a list, under the column's name.
-fn column_rows(column: &Series, groups: &GroupPart<'_>) -> PolarsResult<Series>
-    requires groups { AreGroupsOf (value_of column.now) (part_of groups.now) }
+fn column_rows(column: &Series, groups: &GroupsView<'_>) -> PolarsResult<Series>
+    requires groups { AreGroupsOf (value_of column.now) groups.now }
     requires short { HasRowNumbers (length (value_of column.now).slots) }
     ensures ok { IfOk result (λ s. value_of s
-        ≡ folded Groups (value_of column.now) (lists_in (part_of groups.now))) }
+        ≡ folded Groups (value_of column.now) (lists_in groups.now)) }
     ensures err { IfErr result IsNoMemory }
 {
     let name = column.name().try_clone()?;
@@ -228,12 +227,12 @@ fn column_rows(column: &Series, groups: &GroupPart<'_>) -> PolarsResult<Series>
 fn column_counts(
     column: &Series,
     include_nulls: bool,
-    groups: &GroupPart<'_>,
+    groups: &GroupsView<'_>,
 ) -> PolarsResult<UInt32Chunked>
-    requires groups { AreGroupsOf (value_of column.now) (part_of groups.now) }
+    requires groups { AreGroupsOf (value_of column.now) groups.now }
     requires short { HasRowNumbers (length (value_of column.now).slots) }
     ensures ok { let c = value_of column.now in IfOk result (λ counts.
-        counts ≡ folded (Count include_nulls) c (lists_in (part_of groups.now))) }
+        counts ≡ folded (Count include_nulls) c (lists_in groups.now)) }
     ensures err { IfErr result IsNoMemory }
 {
     let name = column.name().try_clone()?;

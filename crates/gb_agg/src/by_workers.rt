@@ -6,7 +6,6 @@ ghost use Rattle.gb_defs.specs.Fold.{NUnique};
 ghost use Rattle.gb_defs.specs.Groups.{HasRowNumbers, lists_in};
 ghost use Rattle.gb_base.specs.PlSmallStr.{IsNoMemory};
 ghost use Rattle.gb_base.specs.PolarsError.{Explains};
-ghost use Rattle.gb_groups.specs.GroupsType.{groups_of};
 ghost use Rattle.gb_series.specs.Series.{value_of};
 ghost use Rattle.gb_agg.specs.Folds.{AreGroupsOf, IsAggregateOf, folded, joined_content, slots_of_parts, unfit_of};
 ghost use Rattle.gb_groups.specs.Views.{part_from};
@@ -14,13 +13,12 @@ ghost use Rattle.gb_agg.specs.Method.{goes_by_parts, method_of};
 
 use crate::aggregate::aggregate;
 use crate::distinct::distinct_counts;
-use crate::group_part::GroupPart;
 use crate::method::GroupByMethod;
 use gb_base::error::PolarsResult;
 use gb_base::pool::Pool;
 use gb_cols::series_trait::SeriesTrait;
 use gb_flat::shares::map_shares;
-use gb_groups::groups_type::GroupsType;
+use gb_groups::view::GroupsView;
 use gb_series::into_series::IntoSeries;
 use gb_series::series::Series;
 use std::alloc::Global;
@@ -48,35 +46,34 @@ fn aggregate_whole<R: Threads + Sync>(
     alloc: Global,
     column: &Series,
     method: GroupByMethod,
-    groups: &GroupsType,
+    groups: &GroupsView<'_>,
     pool: &Pool,
 ) -> PolarsResult<Series>
     requires parts { goes_by_parts method ≡ true }
-    requires groups { AreGroupsOf (value_of column.now) (groups_of groups.now) }
+    requires groups { AreGroupsOf (value_of column.now) groups.now }
     requires short { HasRowNumbers (length (value_of column.now).slots) }
     ensures fits { OnOk result (unfit_of (method_of method) (value_of column.now) ≡ None) }
-    ensures ok { IfOk result
-        (IsAggregateOf method (value_of column.now) (groups_of groups.now)) }
+    ensures ok { IfOk result (IsAggregateOf method (value_of column.now) groups.now) }
     ensures err { IfErr result (λ e.
         Explains e (unfit_of (method_of method) (value_of column.now))) }
 {
-    let count = groups.len();
     let workers = pool.workers().min(column.len() / ROWS_A_WORKER);
     if workers < 2 {
-        return aggregate(column, method, &GroupPart::new(groups, 0, count));
+        return aggregate(column, method, groups);
     }
     // Over no groups: what the column's type has not is refused here.
-    let none = aggregate(column, method, &GroupPart::new(groups, 0, 0))?;
+    let none = aggregate(column, method, &groups.part(0, 0))?;
     let part = |range: (usize, usize)| -> PolarsResult<Series>
-        requires { range.0 + range.1 ≤ length (groups_of groups.now).pairs
-            × AreGroupsOf (value_of column.now) (groups_of groups.now)
+        requires { range.0 + range.1 ≤ length groups.now.pairs
+            × AreGroupsOf (value_of column.now) groups.now
             × HasRowNumbers (length (value_of column.now).slots)
             × goes_by_parts method ≡ true
             × unfit_of (method_of method) (value_of column.now) ≡ None }
         ensures { IfOk result (IsAggregateOf method (value_of column.entry.now)
-            (part_from (groups_of groups.entry.now) range.0 range.1))
+            (part_from groups.entry.now range.0 range.1))
             × IfErr result IsNoMemory }
     { aggregate_part(column, method, groups, range) };
+    let count = groups.len();
     let made = map_shares(rt, alloc, count, workers, &part)?;
     append_all(none, made)
 }
@@ -89,14 +86,13 @@ pub fn aggregate_all<R: Threads + Sync>(
     alloc: Global,
     column: &Series,
     method: GroupByMethod,
-    groups: &GroupsType,
+    groups: &GroupsView<'_>,
     pool: &Pool,
 ) -> PolarsResult<Series>
-    requires groups { AreGroupsOf (value_of column.now) (groups_of groups.now) }
+    requires groups { AreGroupsOf (value_of column.now) groups.now }
     requires short { HasRowNumbers (length (value_of column.now).slots) }
     ensures fits { OnOk result (unfit_of (method_of method) (value_of column.now) ≡ None) }
-    ensures ok { IfOk result
-        (IsAggregateOf method (value_of column.now) (groups_of groups.now)) }
+    ensures ok { IfOk result (IsAggregateOf method (value_of column.now) groups.now) }
     ensures err { IfErr result (λ e.
         Explains e (unfit_of (method_of method) (value_of column.now))) }
 {
@@ -110,17 +106,16 @@ pub fn aggregate_all<R: Threads + Sync>(
 fn all_distinct<R: Threads + Sync>(
     rt: &R,
     column: &Series,
-    groups: &GroupsType,
+    groups: &GroupsView<'_>,
     pool: &Pool,
 ) -> PolarsResult<Series>
-    requires groups { AreGroupsOf (value_of column.now) (groups_of groups.now) }
+    requires groups { AreGroupsOf (value_of column.now) groups.now }
     requires short { HasRowNumbers (length (value_of column.now).slots) }
     ensures ok { let c = value_of column.now in IfOk result (λ s.
-        value_of s ≡ folded NUnique c (lists_in (groups_of groups.now))) }
+        value_of s ≡ folded NUnique c (lists_in groups.now)) }
     ensures err { IfErr result IsNoMemory }
 {
-    let whole = GroupPart::new(groups, 0, groups.len());
-    let counts = distinct_counts(rt, column, &whole, pool)?;
+    let counts = distinct_counts(rt, column, groups, pool)?;
     Ok(counts.into_series())
 }
 
@@ -130,15 +125,14 @@ fn aggregate_by_parts<R: Threads + Sync>(
     alloc: Global,
     column: &Series,
     method: GroupByMethod,
-    groups: &GroupsType,
+    groups: &GroupsView<'_>,
     pool: &Pool,
 ) -> PolarsResult<Series>
     requires parts { goes_by_parts method ≡ true }
-    requires groups { AreGroupsOf (value_of column.now) (groups_of groups.now) }
+    requires groups { AreGroupsOf (value_of column.now) groups.now }
     requires short { HasRowNumbers (length (value_of column.now).slots) }
     ensures fits { OnOk result (unfit_of (method_of method) (value_of column.now) ≡ None) }
-    ensures ok { IfOk result
-        (IsAggregateOf method (value_of column.now) (groups_of groups.now)) }
+    ensures ok { IfOk result (IsAggregateOf method (value_of column.now) groups.now) }
     ensures err { IfErr result (λ e.
         Explains e (unfit_of (method_of method) (value_of column.now))) }
 {
@@ -155,19 +149,19 @@ fn aggregate_by_parts<R: Threads + Sync>(
 fn aggregate_part(
     column: &Series,
     method: GroupByMethod,
-    groups: &GroupsType,
+    groups: &GroupsView<'_>,
     range: (usize, usize),
 ) -> PolarsResult<Series>
     requires parts { goes_by_parts method ≡ true }
-    requires inside { range.0 + range.1 ≤ length (groups_of groups.now).pairs }
-    requires groups { AreGroupsOf (value_of column.now) (groups_of groups.now) }
+    requires inside { range.0 + range.1 ≤ length groups.now.pairs }
+    requires groups { AreGroupsOf (value_of column.now) groups.now }
     requires short { HasRowNumbers (length (value_of column.now).slots) }
     requires fits { unfit_of (method_of method) (value_of column.now) ≡ None }
     ensures ok { IfOk result (IsAggregateOf method (value_of column.now)
-        (part_from (groups_of groups.now) range.0 range.1)) }
+        (part_from groups.now range.0 range.1)) }
     ensures err { IfErr result IsNoMemory }
 {
-    aggregate(column, method, &GroupPart::new(groups, range.0, range.1))
+    aggregate(column, method, &groups.part(range.0, range.1))
 }
 
 // The slots of the others behind those of a column.

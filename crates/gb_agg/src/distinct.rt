@@ -9,10 +9,8 @@ ghost use Rattle.gb_defs.specs.Fold.{NUnique};
 ghost use Rattle.gb_series.specs.Series.{value_of};
 ghost use Rattle.gb_agg.specs.Distinct.{AreClasses, different, different_fold, numbers_at};
 ghost use Rattle.gb_agg.specs.Folds.{AreGroupsOf, fold_column, folded};
-ghost use Rattle.gb_agg.specs.GroupPart.{part_of};
 
 use crate::classes::class_numbers;
-use crate::group_part::GroupPart;
 use crate::group_rows::{GroupRows, RowList, RowRun};
 use gb_base::error::PolarsResult;
 use gb_base::memory::FreeGate;
@@ -21,6 +19,7 @@ use gb_base::small_str::PlSmallStr;
 use gb_cols::primitive::UInt32Chunked;
 use gb_cols::series_trait::SeriesTrait;
 use gb_groups::groups_type::GroupsIndicator;
+use gb_groups::view::GroupsView;
 use gb_paths::by_keys::group_by_detected;
 use gb_series::series::Series;
 use std::alloc::Global;
@@ -31,13 +30,13 @@ use std::thread::Threads;
 pub(crate) fn distinct_counts<R: Threads + Sync>(
     rt: &R,
     column: &Series,
-    groups: &GroupPart<'_>,
+    groups: &GroupsView<'_>,
     pool: &Pool,
 ) -> PolarsResult<UInt32Chunked>
-    requires groups { AreGroupsOf (value_of column.now) (part_of groups.now) }
+    requires groups { AreGroupsOf (value_of column.now) groups.now }
     requires short { HasRowNumbers (length (value_of column.now).slots) }
     ensures ok { let c = value_of column.now in IfOk result (λ counts.
-        counts ≡ folded NUnique c (lists_in (part_of groups.now))) }
+        counts ≡ folded NUnique c (lists_in groups.now)) }
     ensures err { IfErr result IsNoMemory }
 {
     let (numbers, count) = column_classes(rt, column, pool)?;
@@ -70,14 +69,14 @@ fn count_groups(
     name: PlSmallStr,
     numbers: &[u32],
     count: usize,
-    groups: &GroupPart<'_>,
+    groups: &GroupsView<'_>,
 ) -> PolarsResult<UInt32Chunked>
-    requires rows { All (AreMembers (length numbers.now)) (lists_in (part_of groups.now)) }
+    requires rows { All (AreMembers (length numbers.now)) (lists_in groups.now) }
     requires known { All (λ number. number < count) numbers.now }
-    requires few { HasRowNumbers (length (part_of groups.now).pairs) }
+    requires few { HasRowNumbers (length groups.now.pairs) }
     requires short { HasRowNumbers (length numbers.now) }
     ensures ok { IfOk result (λ c. c ≡ fold_column (name_of name) uint32
-        (different_fold numbers.now) (lists_in (part_of groups.now))) }
+        (different_fold numbers.now) (lists_in groups.now)) }
     ensures err { IfErr result IsNoMemory }
 {
     let mut seen = Vec::new(alloc);

@@ -7,14 +7,13 @@ ghost use Rattle.gb_defs.specs.Slot.{slot_at};
 ghost use Rattle.gb_base.specs.PlSmallStr.{IsNoMemory};
 ghost use Rattle.gb_agg.specs.Extremes.{AreExtremes};
 ghost use Rattle.gb_agg.specs.Folds.{AreGroupsOf, extreme, fold_in};
-ghost use Rattle.gb_agg.specs.GroupPart.{part_of};
 
 use crate::fold_order::FoldOrder;
-use crate::group_part::GroupPart;
 use crate::group_rows::GroupRows;
 use crate::row_pick::{RowPick, pick_groups};
 use gb_base::error::PolarsResult;
 use gb_base::nullable_idx::IdxSize;
+use gb_groups::view::GroupsView;
 use std::alloc::Global;
 
 // The row of the least slot, or of the greatest.
@@ -61,11 +60,11 @@ pub(crate) fn extreme_rows<C: FoldOrder>(
     alloc: Global,
     column: &C,
     greatest: bool,
-    groups: &GroupPart<'_>,
+    groups: &GroupsView<'_>,
 ) -> PolarsResult<Option<Vec<IdxSize>>>
-    requires groups { AreGroupsOf (C.column column.now) (part_of groups.now) }
+    requires groups { AreGroupsOf (C.column column.now) groups.now }
     requires short { HasRowNumbers (length (C.column column.now).slots) }
-    ensures ok { let lists = lists_in (part_of groups.now) in
+    ensures ok { let lists = lists_in groups.now in
         IfOk result (λ found. MatchOption found (has_least (C.column column.now).dtype ≡ false)
         (λ rows. AreExtremes greatest (C.column column.now) lists rows.items)) }
     ensures err { IfErr result IsNoMemory }

@@ -7,9 +7,7 @@ ghost use Rattle.gb_defs.specs.Fold.{Sum};
 ghost use Rattle.gb_defs.specs.Groups.{lists_in};
 ghost use Rattle.gb_base.specs.PlSmallStr.{IsNoMemory, name_of};
 ghost use Rattle.gb_agg.specs.Folds.{AreGroupsOf, fold_column, fold_in, sums_of_column};
-ghost use Rattle.gb_agg.specs.GroupPart.{part_of};
 
-use crate::group_part::GroupPart;
 use crate::number_fold::{FlagSum, SumOf, fold_groups};
 use gb_base::error::PolarsResult;
 use gb_base::small_str::PlSmallStr;
@@ -19,6 +17,7 @@ use gb_cols::chunked::{ChunkedArray, StringChunked};
 use gb_cols::null::NullChunked;
 use gb_cols::primitive::UInt32Chunked;
 use gb_cols::series_trait::SeriesTrait;
+use gb_groups::view::GroupsView;
 use gb_logical::categorical::CategoricalChunked;
 use gb_logical::logical::{Logical, LogicalKind};
 use gb_numbers::numeric::PolarsNumericType;
@@ -36,10 +35,10 @@ pub trait GroupSums {
     fn group_sums(
         &self,
         name: PlSmallStr,
-        groups: &GroupPart<'_>,
+        groups: &GroupsView<'_>,
     ) -> PolarsResult<Option<Self::Sums>>
-        requires { AreGroupsOf (column self.now) (part_of groups.now) }
-        ensures ok { let lists = lists_in (part_of groups.now) in
+        requires { AreGroupsOf (column self.now) groups.now }
+        ensures ok { let lists = lists_in groups.now in
             IfOk result (λ sums. option_map Self.Sums.value sums
             ≡ sums_of_column (name_of name) (column self.now) lists) }
         ensures err { IfErr result IsNoMemory };
@@ -50,7 +49,7 @@ impl<T: PolarsNumericType> GroupSums for ChunkedArray<NumberValues<T>> {
 
     ghost column = { λ c. c };
 
-    fn group_sums(&self, name: PlSmallStr, groups: &GroupPart<'_>) -> PolarsResult<Option<Self>> {
+    fn group_sums(&self, name: PlSmallStr, groups: &GroupsView<'_>) -> PolarsResult<Option<Self>> {
         Ok(Some(number_sums(name, self, groups)?))
     }
 }
@@ -59,12 +58,12 @@ impl<T: PolarsNumericType> GroupSums for ChunkedArray<NumberValues<T>> {
 fn number_sums<T: PolarsNumericType>(
     name: PlSmallStr,
     column: &ChunkedArray<NumberValues<T>>,
-    groups: &GroupPart<'_>,
+    groups: &GroupsView<'_>,
 ) -> PolarsResult<ChunkedArray<NumberValues<T>>>
-    requires { AreGroupsOf column.now (part_of groups.now) }
+    requires { AreGroupsOf column.now groups.now }
     ensures typed { column.now.dtype ≡ Flat T.Native.flat }
     ensures ok { IfOk result (λ c. c ≡ fold_column (name_of name) (Flat T.Native.flat)
-        (fold_in Sum column.now) (lists_in (part_of groups.now))) }
+        (fold_in Sum column.now) (lists_in groups.now)) }
     ensures err { IfErr result IsNoMemory }
 {
     let alloc = column.allocator();
@@ -75,12 +74,12 @@ fn number_sums<T: PolarsNumericType>(
 fn flag_sums(
     name: PlSmallStr,
     column: &BooleanChunked,
-    groups: &GroupPart<'_>,
+    groups: &GroupsView<'_>,
 ) -> PolarsResult<UInt32Chunked>
-    requires { AreGroupsOf column.now (part_of groups.now) }
+    requires { AreGroupsOf column.now groups.now }
     ensures typed { column.now.dtype ≡ Flat Boolean }
     ensures ok { IfOk result (λ c. c ≡ fold_column (name_of name) uint32
-        (fold_in Sum column.now) (lists_in (part_of groups.now))) }
+        (fold_in Sum column.now) (lists_in groups.now)) }
     ensures err { IfErr result IsNoMemory }
 {
     let alloc = column.allocator();
@@ -96,7 +95,7 @@ impl GroupSums for BooleanChunked {
     fn group_sums(
         &self,
         name: PlSmallStr,
-        groups: &GroupPart<'_>,
+        groups: &GroupsView<'_>,
     ) -> PolarsResult<Option<UInt32Chunked>> {
         Ok(Some(flag_sums(name, self, groups)?))
     }
@@ -107,7 +106,7 @@ impl<K: LogicalKind> GroupSums for Logical<K> {
 
     ghost column = { λ c. c };
 
-    fn group_sums(&self, name: PlSmallStr, groups: &GroupPart<'_>) -> PolarsResult<Option<Self>> {
+    fn group_sums(&self, name: PlSmallStr, groups: &GroupsView<'_>) -> PolarsResult<Option<Self>> {
         let kind = self.kind();
         if !kind.has_sum() {
             return Ok(None);
@@ -122,7 +121,7 @@ impl GroupSums for NullChunked {
 
     ghost column = { λ c. c };
 
-    fn group_sums(&self, _name: PlSmallStr, _groups: &GroupPart<'_>) -> PolarsResult<Option<Self>> {
+    fn group_sums(&self, _name: PlSmallStr, _groups: &GroupsView<'_>) -> PolarsResult<Option<Self>> {
         // The call tells the column's type.
         let _ = self.allocator();
         Ok(None)
@@ -134,7 +133,7 @@ impl GroupSums for StringChunked {
 
     ghost column = { λ c. c };
 
-    fn group_sums(&self, _name: PlSmallStr, _groups: &GroupPart<'_>) -> PolarsResult<Option<Self>> {
+    fn group_sums(&self, _name: PlSmallStr, _groups: &GroupsView<'_>) -> PolarsResult<Option<Self>> {
         let _ = self.allocator();
         Ok(None)
     }
@@ -145,7 +144,7 @@ impl GroupSums for BinaryChunked {
 
     ghost column = { λ c. c };
 
-    fn group_sums(&self, _name: PlSmallStr, _groups: &GroupPart<'_>) -> PolarsResult<Option<Self>> {
+    fn group_sums(&self, _name: PlSmallStr, _groups: &GroupsView<'_>) -> PolarsResult<Option<Self>> {
         let _ = self.allocator();
         Ok(None)
     }
@@ -156,7 +155,7 @@ impl GroupSums for BinaryOffsetChunked {
 
     ghost column = { λ c. c };
 
-    fn group_sums(&self, _name: PlSmallStr, _groups: &GroupPart<'_>) -> PolarsResult<Option<Self>> {
+    fn group_sums(&self, _name: PlSmallStr, _groups: &GroupsView<'_>) -> PolarsResult<Option<Self>> {
         let _ = self.allocator();
         Ok(None)
     }
@@ -167,7 +166,7 @@ impl GroupSums for CategoricalChunked {
 
     ghost column = { λ c. c };
 
-    fn group_sums(&self, _name: PlSmallStr, _groups: &GroupPart<'_>) -> PolarsResult<Option<Self>> {
+    fn group_sums(&self, _name: PlSmallStr, _groups: &GroupsView<'_>) -> PolarsResult<Option<Self>> {
         let _ = self.get_rev_map();
         Ok(None)
     }

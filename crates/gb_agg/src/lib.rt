@@ -7,7 +7,6 @@ mod classes;
 mod distinct;
 mod extremes;
 pub mod fold_order;
-pub mod group_part;
 pub mod group_rows;
 mod group_sums;
 pub mod lists;

@@ -8,10 +8,8 @@ ghost use Rattle.gb_defs.specs.ColumnType.{ListOf, uint32};
 ghost use Rattle.gb_series.specs.Series.{value_of};
 ghost use Rattle.gb_agg.specs.Folds.{AreGroupsOf, fold_column, folded, list_of_rows};
 ghost use Rattle.gb_groups.specs.GroupsIndicator.{pair_of};
-ghost use Rattle.gb_agg.specs.GroupPart.{part_of};
 ghost use Rattle.gb_agg.specs.Lists.{AreListed, HaveNumbers};
 
-use crate::group_part::GroupPart;
 use crate::group_rows::{GroupRows, RowList, RowRun};
 use gb_base::error::PolarsResult;
 use gb_base::nullable_idx::IdxSize;
@@ -19,6 +17,7 @@ use gb_base::small_str::PlSmallStr;
 use gb_cols::primitive::UInt32Chunked;
 use gb_cols::series_trait::SeriesTrait;
 use gb_groups::groups_type::GroupsIndicator;
+use gb_groups::view::GroupsView;
 use gb_series::into_series::IntoSeries;
 use gb_series::nested::list::ListChunked;
 use gb_series::series::Series;
@@ -27,11 +26,11 @@ use std::alloc::{AllocError, Global};
 // The rows of all groups, one group's behind the other's, and where those of each end.
 fn listed_rows(
     alloc: Global,
-    groups: &GroupPart<'_>,
+    groups: &GroupsView<'_>,
 ) -> Result<(Vec<IdxSize>, Vec<usize>), AllocError>
-    requires { All HaveNumbers (lists_in (part_of groups.now)) }
+    requires { All HaveNumbers (lists_in groups.now) }
     ensures { IfOk result (λ made.
-        AreListed (lists_in (part_of groups.now)) made.0.items made.1.items) }
+        AreListed (lists_in groups.now) made.0.items made.1.items) }
 {
     let mut rows = Vec::new(alloc);
     let mut ends = Vec::with_capacity(alloc, groups.len())?;
@@ -67,11 +66,11 @@ fn push_rows<R: GroupRows>(rows: &mut Vec<IdxSize>, more: &R) -> Result<(), Allo
 }
 
 /// The slots at the rows of each group as a list, under the column's name. All are taken at once.
-pub(crate) fn slot_lists(column: &Series, groups: &GroupPart<'_>) -> PolarsResult<Series>
-    requires groups { AreGroupsOf (value_of column.now) (part_of groups.now) }
+pub(crate) fn slot_lists(column: &Series, groups: &GroupsView<'_>) -> PolarsResult<Series>
+    requires groups { AreGroupsOf (value_of column.now) groups.now }
     requires short { HasRowNumbers (length (value_of column.now).slots) }
     ensures ok { IfOk result (λ s. value_of s
-        ≡ folded Implode (value_of column.now) (lists_in (part_of groups.now))) }
+        ≡ folded Implode (value_of column.now) (lists_in groups.now)) }
     ensures err { IfErr result IsNoMemory }
 {
     let alloc = column.allocator();
@@ -83,10 +82,10 @@ pub(crate) fn slot_lists(column: &Series, groups: &GroupPart<'_>) -> PolarsResul
 }
 
 /// The rows of each group as a list.
-pub fn row_lists(alloc: Global, name: PlSmallStr, groups: &GroupPart<'_>) -> PolarsResult<Series>
-    requires { All HaveNumbers (lists_in (part_of groups.now)) }
+pub fn row_lists(alloc: Global, name: PlSmallStr, groups: &GroupsView<'_>) -> PolarsResult<Series>
+    requires { All HaveNumbers (lists_in groups.now) }
     ensures ok { IfOk result (λ s. value_of s ≡ fold_column (name_of name) (ListOf uint32)
-        list_of_rows (lists_in (part_of groups.now))) }
+        list_of_rows (lists_in groups.now)) }
     ensures err { IfErr result IsNoMemory }
 {
     let inner = PlSmallStr::from_str(alloc, "")?;

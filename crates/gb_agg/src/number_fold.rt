@@ -9,9 +9,7 @@ ghost use Rattle.gb_base.specs.PlSmallStr.{IsNoMemory, name_of};
 ghost use Rattle.gb_values.specs.Array.{native_slot};
 ghost use Rattle.gb_groups.specs.GroupsIndicator.{pair_of};
 ghost use Rattle.gb_agg.specs.Folds.{fold_column, fold_in, rows_fold};
-ghost use Rattle.gb_agg.specs.GroupPart.{part_of};
 
-use crate::group_part::GroupPart;
 use crate::group_rows::{GroupRows, RowList, RowRun};
 use crate::slot_fold::{SumFold, fold_rows};
 use gb_base::error::PolarsResult;
@@ -20,6 +18,7 @@ use gb_cols::boolean::BooleanChunked;
 use gb_cols::chunked::ChunkedArray;
 use gb_cols::series_trait::SeriesTrait;
 use gb_groups::groups_type::GroupsIndicator;
+use gb_groups::view::GroupsView;
 use gb_numbers::numeric::{PolarsNumericType, UInt32Type};
 use gb_values::primitive::NumberValues;
 use std::alloc::Global;
@@ -44,12 +43,12 @@ pub fn fold_groups<F: NumberFold>(
     alloc: Global,
     name: PlSmallStr,
     fold: &F,
-    groups: &GroupPart<'_>,
+    groups: &GroupsView<'_>,
 ) -> PolarsResult<ChunkedArray<NumberValues<F::Out>>>
-    requires rows { All (AreMembers (F.height fold.now)) (lists_in (part_of groups.now)) }
-    requires few { HasRowNumbers (length (part_of groups.now).pairs) }
+    requires rows { All (AreMembers (F.height fold.now)) (lists_in groups.now) }
+    requires few { HasRowNumbers (length groups.now.pairs) }
     ensures ok { IfOk result (λ c. c ≡ fold_column (name_of name) (Flat F.Out.Native.flat)
-        (F.fold fold.now) (lists_in (part_of groups.now))) }
+        (F.fold fold.now) (lists_in groups.now)) }
     ensures err { IfErr result IsNoMemory }
 {
     let mut folded: ChunkedArray<NumberValues<F::Out>> = ChunkedArray::new(alloc, name);

@@ -8,15 +8,14 @@ ghost use Rattle.gb_defs.specs.Slot.{Slot, slot_at};
 ghost use Rattle.gb_base.specs.PlSmallStr.{IsNoMemory};
 ghost use Rattle.gb_groups.specs.GroupsIndicator.{pair_of};
 ghost use Rattle.gb_agg.specs.Folds.{AreGroupsOf, fold_in};
-ghost use Rattle.gb_agg.specs.GroupPart.{part_of};
 ghost use Rattle.gb_agg.specs.Picks.{ArePicks, IsPick};
 
-use crate::group_part::GroupPart;
 use crate::group_rows::{GroupRows, RowList, RowRun};
 use gb_base::error::PolarsResult;
 use gb_base::nullable_idx::IdxSize;
 use gb_cols::series_trait::SeriesTrait;
 use gb_groups::groups_type::GroupsIndicator;
+use gb_groups::view::GroupsView;
 use std::alloc::Global;
 
 /// What picks one of some rows of a column.
@@ -95,12 +94,12 @@ impl<'a, C: SeriesTrait> RowPick for LastRow<'a, C> {
 pub fn pick_groups<P: RowPick>(
     alloc: Global,
     pick: &P,
-    groups: &GroupPart<'_>,
+    groups: &GroupsView<'_>,
 ) -> PolarsResult<Vec<IdxSize>>
-    requires groups { AreGroupsOf (P.column pick.now) (part_of groups.now) }
+    requires groups { AreGroupsOf (P.column pick.now) groups.now }
     requires short { HasRowNumbers (length (P.column pick.now).slots) }
     ensures ok { IfOk result (λ rows. ArePicks (P.column pick.now) (P.fold pick.now)
-        (lists_in (part_of groups.now)) rows.items) }
+        (lists_in groups.now) rows.items) }
     ensures err { IfErr result IsNoMemory }
 {
     let mut rows = Vec::with_capacity(alloc, groups.len())?;

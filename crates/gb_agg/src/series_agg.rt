@@ -133,7 +133,7 @@ impl SeriesAgg for Series {
         pool: &Pool,
     ) -> PolarsResult<Series> {
         let method = GroupByMethod::Sum;
-        aggregate_all(rt, self.allocator(), self, method, groups, pool)
+        aggregate_all(rt, self.allocator(), self, method, &groups.view(), pool)
     }
 
     fn agg_min<R: Threads + Sync>(
@@ -143,7 +143,7 @@ impl SeriesAgg for Series {
         pool: &Pool,
     ) -> PolarsResult<Series> {
         let method = GroupByMethod::Min;
-        aggregate_all(rt, self.allocator(), self, method, groups, pool)
+        aggregate_all(rt, self.allocator(), self, method, &groups.view(), pool)
     }
 
     fn agg_max<R: Threads + Sync>(
@@ -153,7 +153,7 @@ impl SeriesAgg for Series {
         pool: &Pool,
     ) -> PolarsResult<Series> {
         let method = GroupByMethod::Max;
-        aggregate_all(rt, self.allocator(), self, method, groups, pool)
+        aggregate_all(rt, self.allocator(), self, method, &groups.view(), pool)
     }
 
     fn agg_first<R: Threads + Sync>(
@@ -163,7 +163,7 @@ impl SeriesAgg for Series {
         pool: &Pool,
     ) -> PolarsResult<Series> {
         let method = GroupByMethod::First;
-        aggregate_all(rt, self.allocator(), self, method, groups, pool)
+        aggregate_all(rt, self.allocator(), self, method, &groups.view(), pool)
     }
 
     fn agg_last<R: Threads + Sync>(
@@ -173,7 +173,7 @@ impl SeriesAgg for Series {
         pool: &Pool,
     ) -> PolarsResult<Series> {
         let method = GroupByMethod::Last;
-        aggregate_all(rt, self.allocator(), self, method, groups, pool)
+        aggregate_all(rt, self.allocator(), self, method, &groups.view(), pool)
     }
 
     fn agg_n_unique<R: Threads + Sync>(
@@ -183,7 +183,7 @@ impl SeriesAgg for Series {
         pool: &Pool,
     ) -> PolarsResult<Series> {
         let method = GroupByMethod::NUnique;
-        aggregate_all(rt, self.allocator(), self, method, groups, pool)
+        aggregate_all(rt, self.allocator(), self, method, &groups.view(), pool)
     }
 
     fn agg_valid_count<R: Threads + Sync>(
@@ -195,7 +195,7 @@ impl SeriesAgg for Series {
         let method = GroupByMethod::Count {
             include_nulls: false,
         };
-        aggregate_all(rt, self.allocator(), self, method, groups, pool)
+        aggregate_all(rt, self.allocator(), self, method, &groups.view(), pool)
     }
 
     fn agg_list<R: Threads + Sync>(
@@ -205,7 +205,7 @@ impl SeriesAgg for Series {
         pool: &Pool,
     ) -> PolarsResult<Series> {
         let method = GroupByMethod::Implode;
-        aggregate_all(rt, self.allocator(), self, method, groups, pool)
+        aggregate_all(rt, self.allocator(), self, method, &groups.view(), pool)
     }
 }
 

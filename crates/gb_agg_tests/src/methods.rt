@@ -93,7 +93,7 @@ fn makes<R: Threads + Sync>(
     }
     let alloc = column.allocator();
     let pool = Pool::new(2, 2, 1, 1, 0);
-    let folded = aggregate_all(rt, alloc, &column, method, &groups, &pool)?;
+    let folded = aggregate_all(rt, alloc, &column, method, &groups.view(), &pool)?;
     let mut cells = Vec::new(alloc);
     for row in 0..folded.len() {
         put_cell(&folded, row, &mut cells)?;

@@ -5,7 +5,7 @@ use Rattle.std.proofs.lemmas.Slice.Eq.{bytes_eq-Decides}
 use Rattle.std.specs.Str.{bytes_eq}
 use Rattle.std.specs.Option.{option_or}
 use Rattle.gb_defs.specs.Answer.{aggregated, answer_name, slots_in, type_in}
-use Rattle.gb_defs.specs.Column.{ColumnValue, Content, Frame, content, find_column}
+use Rattle.gb_defs.specs.Column.{ColumnValue, Content, Frame, IsFrame, content, find_column}
 use Rattle.gb_defs.specs.Fault.{Fault, ColumnNotFound, Operation, is_groups, missing_fault, unfit_at, unfit_fault, unfit_operation, unfit_or}
 use Rattle.gb_defs.specs.ColumnType.{ListOf, uint32}
 use Rattle.gb_defs.specs.Fold.{fold_of, fold_type}
@@ -17,8 +17,9 @@ use Rattle.gb_agg.specs.declared.method.GroupByMethod.{GroupByMethod}
 use Rattle.gb_agg.specs.declared.method.GroupByMethod.TheVariants.{Min, Max, First, Last, Sum, Groups, NUnique, Count, Implode}
 use Rattle.gb_base.specs.PlSmallStr.{name_of}
 use Rattle.gb_series.specs.Frame.{missing_column}
+use Rattle.gb_series.proofs.FrameLemmas.{found_long}
 use Rattle.gb_frame.specs.declared.agg.Agg.{Agg}
-use Rattle.gb_frame.specs.Grouping.{HasColumn, missing_cause, unfit_cause}
+use Rattle.gb_frame.specs.Grouping.{HasColumn, height_in, missing_cause, unfit_cause}
 use Rattle.gb_frame.specs.Agg.{agg_of, aggs_of}
 use Rattle.gb_frame.proofs.CauseLemmas.{first_cause, none_at}
 
@@ -89,6 +90,11 @@ found_named (d ∷ ds) name c e = elim (cases_Bool (bytes_eq d.name name)) [
       sym (ap (λ (v : ColumnValue). v.name) is) ∙ (bytes_eq-Decides d.name name).0 same
   | inr other ↦ found_named ds name c (rw other at e)
 ]
+
+-- it has as many rows as are grouped
+pub found_height : (frame : Frame) (name : List ℕ) (c : ColumnValue) → IsFrame frame → find_column frame name ≡ Some c → length c.slots ≡ height_in frame
+found_height [] name c whole found = cc found
+found_height (d ∷ ds) name c whole found = found_long (length d.slots) (d ∷ ds) name c whole.aligned found
 
 module _ (frame : Frame) (agg : Agg) (c : ColumnValue) (found : find_column frame (name_of agg.column) ≡ Some c) where
   -- it is refused for the type of its column

@@ -6,22 +6,19 @@ use Rattle.std.proofs.lemmas.List.{append-nil, map-append, take_more}
 use Rattle.std.proofs.lemmas.List.Elements.{filter-append}
 use Rattle.std.proofs.lemmas.List.Folds.{list_any-append}
 use Rattle.std.specs.Result.{result_err}
-use Rattle.gb_defs.specs.Classes.{agree_by, groups, rows_below}
-use Rattle.gb_defs.specs.Column.{Frame, IsFrame, content, first_repeated, frame_height, names_of}
+use Rattle.gb_defs.specs.Column.{Frame, content, first_repeated, frame_height, names_of}
 use Rattle.gb_defs.specs.Fault.{Fault, duplicate_of, missing_fault, rows_fault, unfit_fault}
 use Rattle.gb_defs.specs.Fold.{Method}
-use Rattle.gb_defs.specs.Groups.{Grouping, HasRowNumbers, IsWellFormed}
 use Rattle.gb_defs.specs.Outcome.{find_columns}
 use Rattle.gb_base.specs.PolarsError.{IsCause}
-use Rattle.gb_paths.specs.Tuples.{slots_of}
 use Rattle.gb_rows.specs.Lent.{keys_in}
 use Rattle.gb_series.specs.Frame.{frame_fault}
 use Rattle.gb_series.specs.Series.{value_of}
 use Rattle.gb_series.specs.declared.series.Series.{Series}
-use Rattle.gb_frame.specs.Refusals.{aggs_fault, chosen, each_by, names_fault, nameless_fault}
-use Rattle.gb_frame.specs.Grouping.{IsGrouping, answer_parts}
+use Rattle.gb_frame.specs.Refusals.{aggs_fault, chosen, each_by, keys_fault, names_fault, nameless_fault}
+use Rattle.gb_frame.specs.Grouping.{answer_parts}
 use Rattle.gb_frame.proofs.CauseLemmas.{cause_first}
-use Rattle.gb_frame.proofs.GroupingLemmas.{columns_fault, keys_few, keys_firsts, keys_lists, rows_none}
+use Rattle.gb_frame.proofs.GroupingLemmas.{columns_fault}
 
 -- there are some
 pub some_of : (n : ℕ) → false ≡ eqb n 0 → 0 < n
@@ -40,11 +37,9 @@ module _ (frame : Frame) (by : List (List ℕ)) (some : 0 < length by) where
     pub names_repeated : (known : Option Fault) → IsCause known (duplicate_of (first_repeated by)) → IsCause known (names_fault frame by)
     names_repeated known h = rw (nameless_none by some, found) (cause_first known _ _ h)
 
-    pub names_high : first_repeated by ≡ None → (known : Option Fault) → IsCause known (rows_fault (frame_height frame)) → IsCause known (names_fault frame by)
-    names_high apart known h = rw (nameless_none by some, found, apart) h
-
-    pub names_fit : first_repeated by ≡ None → HasRowNumbers (frame_height frame) → names_fault frame by ≡ None
-    names_fit apart short = rw (nameless_none by some, found, apart) (rows_none (frame_height frame) short)
+    -- where each is found once
+    pub names_by_keys : first_repeated by ≡ None → keys_fault frame keys ≡ rows_fault (frame_height frame) → names_fault frame by ≡ keys_fault frame keys
+    names_by_keys apart left = rw (nameless_none by some, found, apart) (sym left)
 
 module _ (frame keys : Frame) (aggs : List (List ℕ × Method)) where
   pub aggs_missing : (known : Option Fault) → IsCause known (missing_fault frame aggs) → IsCause known (aggs_fault frame keys aggs)
@@ -117,17 +112,3 @@ module _ (method : Method) (keys : Frame) (columns : List Series) (i : ℕ) (col
       let one : List ℕ → List ℕ × Method = λ name. (name, method) in
       let last : filter keeps ((value_of column).name ∷ []) ≡ (value_of column).name ∷ [] = rw unknown refl in
       sym (map-append one before ((value_of column).name ∷ [])) ∙ ap (each_by method) (sym (chosen_more ∙ ap (λ ns. before ++ ns) last))
-
--- ---- a grouping of a frame
-
-module _ (frame : Frame) (whole : IsFrame frame) (names : List (List ℕ)) (keys : Frame) (found : find_columns frame names ≡ Ok keys) (some : 0 < length keys) (short : HasRowNumbers (frame_height frame))
-    (g : Grouping) (are : g.pairs ≡ groups (agree_by (slots_of keys)) (rows_below (frame_height keys))) (formed : IsWellFormed (frame_height keys) g.pairs) where
-  pub keys_grouped : IsGrouping frame keys g
-  keys_grouped = record {
-    whole = whole;
-    short = short;
-    some = some;
-    firsts = keys_firsts frame whole names keys found some g are formed;
-    rows = keys_lists frame whole names keys found some g are formed;
-    few = keys_few frame whole names keys found some g are short;
-  }

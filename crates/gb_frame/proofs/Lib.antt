@@ -2,4 +2,6 @@ pub mod AggLemmas
 pub mod CauseLemmas
 pub mod GroupByLemmas
 pub mod GroupingLemmas
+pub mod KeyLemmas
 pub mod PartLemmas
+pub mod StretchLemmas

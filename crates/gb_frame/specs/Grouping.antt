@@ -1,12 +1,10 @@
 -- The columns of an answer over the groups that were found.
-use Rattle.std.specs.Prelude.{◌≡◌, ℕ, ◌<◌, All, List, ◌++◌, length, map, Option, None, false, is_none, if◌then◌else◌}
-use Rattle.std.specs.Result.{result_err}
-use Rattle.gb_defs.specs.Column.{ColumnValue, Content, Frame, IsFrame, content, find_column, frame_height, taken}
+use Rattle.std.specs.Prelude.{◌≡◌, ℕ, ◌<◌, All, List, [], ◌∷◌, ◌++◌, length, map, Option, None, false, is_none, if◌then◌else◌}
+use Rattle.gb_defs.specs.Column.{ColumnValue, Content, Frame, IsFrame, content, find_column, taken}
 use Rattle.gb_defs.specs.Fold.{Method}
 use Rattle.gb_defs.specs.Answer.{aggregated}
 use Rattle.gb_defs.specs.Fault.{Fault, is_groups, unfit_at, unfit_or}
 use Rattle.gb_defs.specs.Groups.{AreMembers, Grouping, HasRowNumbers, first_of, lists_in}
-use Rattle.gb_defs.specs.Outcome.{grouped}
 use Rattle.gb_base.specs.PlSmallStr.{name_of}
 use Rattle.gb_series.specs.Frame.{missing_column}
 use Rattle.gb_series.specs.Series.{value_of}
@@ -46,15 +44,25 @@ unfit_cause frame agg = unfit_or (name_of agg.column) (unfit_at (method_of agg.m
 abbrev pub HasRows : List ℕ → ColumnValue → Type 0
 HasRows rows key = All (λ row. row < length key.slots) rows
 
--- why a frame is not grouped by the columns of these names
-abbrev pub grouping_fault : Frame → List (List ℕ) → List (List ℕ × Method) → Option Fault
-grouping_fault frame by aggs = result_err (grouped frame by aggs)
+-- where the frame has columns they have so many rows
+abbrev pub HasHeight : Frame → ℕ → Type 0
+HasHeight [] height = Unit {0}
+HasHeight (c ∷ cs) height = length c.slots ≡ height
 
--- the groups are of the rows of the frame, and the keys have their first rows
-pub record IsGrouping (frame keys : Frame) (g : Grouping) : Type 0 where
+-- as many rows as a frame has, or where it has no column as many as there may be
+abbrev pub height_in : Frame → ℕ
+height_in [] = 4294967295
+height_in (c ∷ cs) = length c.slots
+
+-- the groups are of the rows of a frame
+pub record AreGroupsIn (frame : Frame) (g : Grouping) : Type 0 where
   pub whole : IsFrame frame
-  pub short : HasRowNumbers (frame_height frame)
+  pub short : HasRowNumbers (height_in frame)
+  pub rows : All (AreMembers (height_in frame)) (lists_in g)
+  pub few : HasRowNumbers (length g.pairs)
+
+-- and the keys have their first rows
+pub record IsGrouping (frame keys : Frame) (g : Grouping) : Type 0 where
+  pub within : AreGroupsIn frame g
   pub some : 0 < length keys
   pub firsts : All (HasRows (firsts_in g)) keys
-  pub rows : All (AreMembers (frame_height frame)) (lists_in g)
-  pub few : HasRowNumbers (length g.pairs)

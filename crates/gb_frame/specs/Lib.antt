@@ -1,4 +1,6 @@
 pub mod Agg
+pub mod Answers
 pub mod GroupBy
 pub mod Grouping
+pub mod Key
 pub mod Refusals

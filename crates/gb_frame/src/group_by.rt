@@ -1,30 +1,31 @@
 //! A frame whose rows are in groups: what is made of it between the grouping and the aggregates.
 
-ghost use Rattle.gb_groups.specs.GroupsType.{groups_of};
-ghost use Rattle.gb_rows.specs.Lent.{keys_in};
 ghost use Rattle.gb_frame.specs.Grouping.{IsGrouping};
+ghost use Rattle.gb_frame.specs.Key.{columns_of};
 
 use crate::agg::Agg;
-use crate::group_frame::{aggregates, check_columns, first_rows, keys_at};
+use crate::checks::check_columns;
+use crate::columns::{aggregates, first_rows, keys_at};
+use crate::key::{Key, lend};
 use crate::selection::{named_aggs, other_aggs};
 use gb_agg::method::GroupByMethod;
 use gb_base::error::PolarsResult;
 use gb_base::pool::Pool;
 use gb_base::small_str::PlSmallStr;
-use gb_groups::groups_type::GroupsType;
+use gb_groups::positions::GroupPositions;
 use gb_series::frame::DataFrame;
 use gb_series::series::Series;
 use std::alloc::Global;
 use std::thread::Threads;
 
-/// The rows of a frame in groups, by columns of it.
+/// The rows of a frame in groups, by keys.
 #[derive(Drop)]
 pub struct GroupBy<'a> {
     frame: &'a DataFrame,
-    keys: Vec<&'a Series>,
-    groups: GroupsType,
+    keys: Vec<Key<'a>>,
+    groups: GroupPositions,
     selected: Option<Vec<PlSmallStr>>,
-    ghost grouped: { IsGrouping frame.now (keys_in keys.items) (groups_of groups) },
+    ghost grouped: { IsGrouping frame.now (columns_of keys.items) groups },
 }
 
 impl<'a> GroupBy<'a> {
@@ -34,22 +35,28 @@ impl<'a> GroupBy<'a> {
     ghost use Rattle.gb_base.specs.PlSmallStr.{IsNoMemory};
     ghost use Rattle.gb_agg.specs.Method.{method_of};
     ghost use Rattle.gb_frame.specs.Agg.{aggs_of, names_of};
-    ghost use Rattle.gb_frame.specs.GroupBy.{Answers, each_of, frame_of, grouping_of, keys_of, selected_of};
+    ghost use Rattle.gb_frame.specs.GroupBy.{Answers, each_of, frame_of, grouping_of, keys_of, named, selected_of};
     ghost use Rattle.gb_frame.specs.Grouping.{contents_of, firsts_in};
 
-    /// The rows of a frame in these groups, by these keys, with no column selected.
-    pub fn new(frame: &'a DataFrame, keys: Vec<&'a Series>, groups: GroupsType) -> GroupBy<'a>
-        requires { IsGrouping frame.now (keys_in keys.items) (groups_of groups) }
+    /// The rows of a frame in these groups, by these keys. The columns of these names are aggregated, or all whose
+    /// name is no key's.
+    pub fn new(
+        frame: &'a DataFrame,
+        keys: Vec<Key<'a>>,
+        groups: GroupPositions,
+        selected: Option<Vec<PlSmallStr>>,
+    ) -> GroupBy<'a>
+        requires { IsGrouping frame.now (columns_of keys.items) groups }
         ensures frame { frame_of result ≡ frame.now }
-        ensures keys { keys_of result ≡ keys_in keys.entry.items }
-        ensures groups { grouping_of result ≡ groups_of groups }
-        ensures selected { selected_of result ≡ None }
+        ensures keys { keys_of result ≡ columns_of keys.entry.items }
+        ensures groups { grouping_of result ≡ groups }
+        ensures selected { selected_of result ≡ named selected }
     {
         GroupBy {
             frame,
             keys,
             groups,
-            selected: None,
+            selected,
         }
     }
 
@@ -60,16 +67,27 @@ impl<'a> GroupBy<'a> {
         self.frame
     }
 
-    pub fn get_groups(&self) -> &GroupsType
-        ensures { groups_of result.now ≡ grouping_of self.now }
+    pub fn get_groups(&self) -> &GroupPositions
+        ensures { result.now ≡ grouping_of self.now }
     {
         &self.groups
     }
 
-    pub fn take_groups(self) -> GroupsType
-        ensures { groups_of result ≡ grouping_of self.entry }
+    pub fn take_groups(self) -> GroupPositions
+        ensures { result ≡ grouping_of self.entry }
     {
         self.groups
+    }
+
+    /// Other groups of the rows, in place of those that were.
+    pub fn set_groups(&mut self, groups: GroupPositions)
+        requires { IsGrouping (frame_of self.old) (keys_of self.old) groups }
+        ensures frame { frame_of self.new ≡ frame_of self.old }
+        ensures keys { keys_of self.new ≡ keys_of self.old }
+        ensures groups { grouping_of self.new ≡ groups }
+        ensures selected { selected_of self.new ≡ selected_of self.old }
+    {
+        self.groups = groups;
     }
 
     /// With the columns of these names to aggregate, in place of those that were.
@@ -93,8 +111,9 @@ impl<'a> GroupBy<'a> {
             contents_of columns.items ≡ map (λ key. content (taken rows key)) (keys_of self.now)) }
         ensures err { IfErr result IsNoMemory }
     {
-        let rows = first_rows(alloc, &self.groups)?;
-        keys_at(alloc, &self.keys, &rows)
+        let rows = first_rows(alloc, &self.groups.view())?;
+        let keys = lend(alloc, &self.keys)?;
+        keys_at(alloc, &keys, &rows)
     }
 
     /// The keys, and these aggregates over the rows of each group.
@@ -108,7 +127,7 @@ impl<'a> GroupBy<'a> {
         ensures { Answers self.now (aggs_of aggs.now) result }
     {
         check_columns(self.frame, aggs)?;
-        let mut folded = aggregates(rt, alloc, self.frame, aggs, &self.groups, pool)?;
+        let mut folded = aggregates(rt, alloc, self.frame, aggs, &self.groups.view(), pool)?;
         let mut columns = self.keys(alloc)?;
         columns.append(&mut folded)?;
         DataFrame::new(columns)
@@ -137,7 +156,10 @@ impl<'a> GroupBy<'a> {
     {
         match &self.selected {
             Some(names) => named_aggs(alloc, names, method),
-            None => other_aggs(alloc, self.frame, &self.keys, method),
+            None => {
+                let keys = lend(alloc, &self.keys)?;
+                other_aggs(alloc, self.frame, &keys, method)
+            }
         }
     }
 

@@ -3,6 +3,11 @@
 
 pub mod agg;
 pub mod by_names;
+mod checks;
+mod columns;
+pub mod group_agg;
 pub mod group_by;
 pub mod group_frame;
+pub mod key;
+pub mod options;
 mod selection;

@@ -89,12 +89,17 @@ pub start_in : (count : ℕ) (offset : ℤ) → moved_into count offset ≤ coun
 start_in count (pos n) = omega arith
 start_in count (negsuc n) = omega arith
 
-within_part : {A : Type 0} (xs : List A) (start count from to : ℕ) → from ≤ count → to ≤ count → take (to - from) (drop (start + from) xs) ≡ take (to - from) (drop from (take count (drop start xs)))
-within_part xs start count from to low high =
+within_part : {A : Type 0} (xs : List A) (start count from n : ℕ) → from + n ≤ count → take n (drop (start + from) xs) ≡ take n (drop from (take count (drop start xs)))
+within_part xs start count from n inside =
     let rest = drop start xs in
-    let all : from + (count - from) ≡ count = omega (arith, low) in
+    let all : from + (count - from) ≡ count = omega (arith, inside) in
     let cut : drop from (take count rest) ≡ take (count - from) (drop from rest) = ap (λ n. drop from (take n rest)) (sym all) ∙ drop-take from (count - from) rest in
-    sym (ap (take (to - from)) cut ∙ take-take (to - from) (count - from) (drop from rest) (omega (arith, high)) ∙ ap (take (to - from)) (drop-drop from start xs))
+    sym (ap (take n) cut ∙ take-take n (count - from) (drop from rest) (omega (arith, inside)) ∙ ap (take n) (drop-drop from start xs))
+
+-- a part of a part
+pub part_again : (g : Grouping) (start count from n : ℕ) → from + n ≤ count → part_from g (start + from) n ≡ part_from (part_from g start count) from n
+part_again g start count from n inside =
+    ap (λ (ps : List (ℕ × List ℕ)). record { pairs = ps; form = g.form; flagged = g.flagged }) (within_part g.pairs start count from n inside)
 
 module _ (g : Grouping) (start count : ℕ) (inside : start + count ≤ length g.pairs) (offset : ℤ) (len from to : ℕ) (from_is : from ≡ slice_start count offset) (to_is : to ≡ slice_end count offset len) where
   pub shown_inside : (from ≤ count) × (to ≤ count)
@@ -105,7 +110,7 @@ module _ (g : Grouping) (start count : ℕ) (inside : start + count ≤ length g
       let long : count ≡ length (take count (drop start g.pairs)) = sym (part_long g.pairs start count inside) in
       let from_at : from ≡ slice_start (length (take count (drop start g.pairs))) offset = from_is ∙ ap (λ n. slice_start n offset) long in
       let to_at : to ≡ slice_end (length (take count (drop start g.pairs))) offset len = to_is ∙ ap (λ n. slice_end n offset len) long in
-      let same = within_part g.pairs start count from to shown_inside.0 shown_inside.1 in
+      let same = within_part g.pairs start count from (to - from) (omega (arith, shown_inside.0, shown_inside.1)) in
       ap (λ (ps : List (ℕ × List ℕ)). record { pairs = ps; form = g.form; flagged = g.flagged })
       (same ∙ ap₂ (λ (f t : ℕ). between f t (take count (drop start g.pairs))) from_at to_at)
 

@@ -92,7 +92,7 @@ impl PartialEq for GroupsType {
     ghost laws = { partial_equiv_from_equiv (on_equiv groups_of same_equiv) };
 
     fn eq(&self, other: &GroupsType) -> bool {
-        self.whole() == other.whole()
+        self.view() == other.view()
     }
 }
 
@@ -192,8 +192,8 @@ impl GroupsType {
         }
     }
 
-    /// All groups.
-    pub(crate) fn whole(&self) -> GroupsView<'_>
+    /// All groups, of which parts can be shown.
+    pub fn view(&self) -> GroupsView<'_>
         ensures { result ≡ groups_of self.now }
     {
         GroupsView::new(self, 0, self.len())
@@ -215,7 +215,7 @@ impl GroupsType {
             GivesOfGroups F.Fn f.now (groups_of self.now).pairs made.items) }
         ensures err { IfErr result IsNoMemory }
     {
-        self.whole().par_map(rt, alloc, pool, f)
+        self.view().par_map(rt, alloc, pool, f)
     }
 
     /// Whether every first row and every row is below `n`, and the rows of each group ascend from its
@@ -223,14 +223,14 @@ impl GroupsType {
     pub fn fits(&self, n: usize) -> bool
         ensures { IsTrue result ↔ All (FitsRows n) (groups_of self.now).pairs }
     {
-        self.whole().fits(n)
+        self.view().fits(n)
     }
 
     /// Whether the groups fit `n` rows, and none is empty.
     pub fn is_well_formed(&self, n: usize) -> bool
         ensures { IsTrue result ↔ IsWellFormed n (groups_of self.now).pairs }
     {
-        self.whole().is_well_formed(n)
+        self.view().is_well_formed(n)
     }
 
     /// The same groups once more.

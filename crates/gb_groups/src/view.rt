@@ -100,7 +100,18 @@ impl<'a> GroupsView<'a> {
         }
     }
 
+    /// So many of these groups from a place on.
+    pub fn part(&self, start: usize, count: usize) -> GroupsView<'a>
+        requires { start + count ≤ length self.now.pairs }
+        ensures { result ≡ part_from self.now start count }
+    {
+        // Its clause says that places have numbers.
+        let _ = self.groups.len();
+        GroupsView::new(self.groups, self.start + start, count)
+    }
+
     /// How many groups there are.
+    #[inline]
     pub fn len(&self) -> usize
         ensures { result ≡ length self.now.pairs }
     {
@@ -114,6 +125,7 @@ impl<'a> GroupsView<'a> {
     }
 
     /// One group.
+    #[inline]
     pub fn get(&self, index: usize) -> GroupsIndicator<'a>
         requires { index < length self.now.pairs }
         ensures { pair_of result ≡ slice_index_or self.now.pairs index (0, []) }

@@ -1,4 +1,5 @@
 pub mod ChoiceLemmas
+pub mod ClassLemmas
 pub mod FormLemmas
 pub mod HashLemmas
 pub mod JoinLemmas

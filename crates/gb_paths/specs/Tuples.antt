@@ -1,8 +1,9 @@
 -- The groups of the rows of a column, and of several columns.
-use Rattle.std.specs.Prelude.{◌≡◌, ℕ, ◌==◌, ◌||◌, Bool, true, false, List, [], ◌∷◌, length, map, if◌then◌else◌}
+use Rattle.std.specs.Prelude.{◌≡◌, ℕ, ◌≤◌, ◌==◌, ◌||◌, Bool, true, false, List, [], ◌∷◌, length, map, if◌then◌else◌}
 use Rattle.std.specs.Int.{w64}
+use Rattle.gb_defs.specs.Classes.{class, rows_below}
 use Rattle.gb_defs.specs.Column.{ColumnValue, Frame, SortedFlag, frame_height}
-use Rattle.gb_defs.specs.Groups.{Grouping}
+use Rattle.gb_defs.specs.Groups.{Grouping, first_of}
 use Rattle.gb_defs.specs.Hash.{hash_of, seed_mix}
 use Rattle.gb_defs.specs.RowBytes.{row_bytes}
 use Rattle.gb_defs.specs.Rows.{Rows, rows_of_slots}
@@ -100,6 +101,11 @@ tuples_by keys multithreaded sorted pool =
 abbrev pub tuples_of_bytes : Frame → Bool → Bool → Pool → Grouping
 tuples_of_bytes keys multithreaded sorted pool =
     path.path_groups (path.hashed_path true (frame_height keys) multithreaded (workers_of pool) (threshold_of pool)) (rows_of_slots w64 (seed_of pool) seed_mix (row_slots keys)) 0 (partitions_of pool) sorted
+
+-- each group is a row with the rows below n that agree with it, and there are no more groups than rows
+pub record AreClasses (agree : ℕ → ℕ → Bool) (n : ℕ) (pairs : List (ℕ × List ℕ)) : Type 0 where
+  pub classes : pairs ≡ map (λ i. (i, class agree (rows_below n) i)) (map first_of pairs)
+  pub few : length pairs ≤ n
 
 -- ---- keys in the order that is found
 

@@ -14,7 +14,7 @@ ghost use Rattle.gb_series.specs.Series.{value_of};
 ghost use Rattle.gb_rows.specs.Lent.{keys_in};
 ghost use Rattle.gb_rows.specs.Rows.{AreOfOneLength};
 ghost use Rattle.gb_rows.specs.Told.{AreToldByRows};
-ghost use Rattle.gb_paths.specs.Tuples.{AreFound, IsNullUnlessValued, all_path, path_value, slots_of, tuples_by, tuples_of_bytes};
+ghost use Rattle.gb_paths.specs.Tuples.{AreClasses, AreFound, IsNullUnlessValued, all_path, path_value, slots_of, tuples_by, tuples_of_bytes};
 
 use crate::into_groups::{group_column, group_keys, group_tuples_gated, one_run};
 use crate::keys::Keys;
@@ -50,6 +50,8 @@ pub fn group_by_keys<T: Threads + Sync, G: Gate + Sync>(
     ensures classes { IfOk result (λ g. sorted ≡ true
         → (groups_of g).pairs ≡ groups (agree_by (slots_of (keys_in keys.now)))
         (rows_below (frame_height (keys_in keys.now)))) }
+    ensures whole { let keys = keys_in keys.now in IfOk result (λ g.
+        AreClasses (agree_by (slots_of keys)) (frame_height keys) (groups_of g).pairs) }
     ensures formed { IfOk result (λ g.
         IsWellFormed (frame_height (keys_in keys.now)) (groups_of g).pairs) }
     ensures err { IfErr result IsNoMemory }
@@ -80,6 +82,8 @@ pub fn group_by_detected<T: Threads + Sync, G: Gate + Sync>(
     ensures classes { IfOk result (λ made. sorted ≡ true
         → (groups_of made.0).pairs ≡ groups (agree_by (slots_of (keys_in keys.now)))
         (rows_below (frame_height (keys_in keys.now)))) }
+    ensures whole { let keys = keys_in keys.now in IfOk result (λ made.
+        AreClasses (agree_by (slots_of keys)) (frame_height keys) (groups_of made.0).pairs) }
     ensures formed { IfOk result (λ made.
         IsWellFormed (frame_height (keys_in keys.now)) (groups_of made.0).pairs) }
     ensures err { IfErr result IsNoMemory }

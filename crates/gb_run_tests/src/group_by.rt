@@ -3,7 +3,7 @@
 use gb_base::error::PolarsResult;
 use gb_base::pool::Pool;
 use gb_base::small_str::PlSmallStr;
-use gb_frame::by_names::group_by_stable;
+use gb_frame::by_names::FrameGroupBy;
 use gb_series::frame::DataFrame;
 use gb_text::status::TableError;
 use gb_text::table::blocks::Reading;
@@ -16,7 +16,7 @@ use std::thread::Threads;
 const DAYS: &str =
     "date,temp:i32\n2020-08-21,20\n2020-08-21,10\n2020-08-22,7\n2020-08-23,9\n2020-08-22,1\n";
 
-fn days<R: Threads + Sync>(rt: &R, alloc: Global) -> Result<DataFrame, TableError> {
+pub(crate) fn days<R: Threads + Sync>(rt: &R, alloc: Global) -> Result<DataFrame, TableError> {
     let reading = Reading {
         names: &["date", "temp"],
         null_word: "",
@@ -27,7 +27,7 @@ fn days<R: Threads + Sync>(rt: &R, alloc: Global) -> Result<DataFrame, TableErro
     table_of(rt, alloc, DAYS.as_bytes(), &reading)
 }
 
-fn names(alloc: Global, words: &[&str]) -> PolarsResult<Vec<PlSmallStr>> {
+pub(crate) fn names(alloc: Global, words: &[&str]) -> PolarsResult<Vec<PlSmallStr>> {
     let mut names = Vec::new(alloc);
     for word in words {
         names.push(PlSmallStr::from_str(alloc, word)?)?;
@@ -36,7 +36,7 @@ fn names(alloc: Global, words: &[&str]) -> PolarsResult<Vec<PlSmallStr>> {
 }
 
 // Whether a frame was made whose text is this.
-fn writes(alloc: Global, made: PolarsResult<DataFrame>, text: &str) -> PolarsResult<bool> {
+pub(crate) fn writes(alloc: Global, made: PolarsResult<DataFrame>, text: &str) -> PolarsResult<bool> {
     let frame = made?;
     Ok(text_of(alloc, &frame, "-")?.as_slice() == text.as_bytes())
 }
@@ -47,7 +47,7 @@ fn aggregates_of_a_grouping(rt: HostRuntime) -> Result<(), Fail> {
     let pool = Pool::new(2, 2, 1, 1, 0);
     let frame = days(&rt, alloc)?;
     let by = names(alloc, &["date"])?;
-    let grouped = group_by_stable(&rt, alloc, &frame, &by, &pool)?;
+    let grouped = frame.group_by_stable(&rt, alloc, &by, &pool)?;
     let made = grouped.sum(&rt, alloc, &pool);
     let text = "date:str,temp_sum:i32\n2020-08-21,30\n2020-08-22,8\n2020-08-23,9\n";
     assert!(rt; writes(alloc, made, text)?);
@@ -72,9 +72,9 @@ fn counts_and_lists_of_a_grouping(rt: HostRuntime) -> Result<(), Fail> {
     let pool = Pool::new(2, 2, 1, 1, 0);
     let frame = days(&rt, alloc)?;
     let by = names(alloc, &["date"])?;
-    let grouped = group_by_stable(&rt, alloc, &frame, &by, &pool)?;
+    let grouped = frame.group_by_stable(&rt, alloc, &by, &pool)?;
     assert_eq!(rt; grouped.df().height(), 5);
-    assert_eq!(rt; grouped.get_groups().len(), 3);
+    assert_eq!(rt; grouped.get_groups().view().len(), 3);
     assert_eq!(rt; grouped.keys(alloc)?.len(), 1);
     let made = grouped.n_unique(&rt, alloc, &pool);
     let text = "date:str,temp_n_unique:u32\n2020-08-21,2\n2020-08-22,2\n2020-08-23,1\n";
@@ -90,12 +90,12 @@ fn counts_and_lists_of_a_grouping(rt: HostRuntime) -> Result<(), Fail> {
     let text =
         "date:str,groups:list[u32]\n2020-08-21,\"[0,1]\"\n2020-08-22,\"[2,4]\"\n2020-08-23,[3]\n";
     assert!(rt; writes(alloc, made, text)?);
-    assert_eq!(rt; grouped.take_groups().len(), 3);
+    assert_eq!(rt; grouped.take_groups().view().len(), 3);
     Ok(())
 }
 
 // Why there is no frame; nothing where there is one.
-fn refusal(alloc: Global, made: PolarsResult<DataFrame>) -> PolarsResult<String> {
+pub(crate) fn refusal(alloc: Global, made: PolarsResult<DataFrame>) -> PolarsResult<String> {
     match made {
         Ok(_) => Ok(String::new(alloc)),
         Err(error) => Ok(format!(in alloc; "{error}")?),
@@ -112,7 +112,7 @@ fn sums<R: Threads + Sync>(
 ) -> PolarsResult<DataFrame> {
     let pool = Pool::new(1, 1, 1, 1, 0);
     let by = names(alloc, by)?;
-    let grouped = group_by_stable(rt, alloc, frame, &by, &pool)?;
+    let grouped = frame.group_by_stable(rt, alloc, &by, &pool)?;
     let grouped = grouped.select(names(alloc, selected)?);
     grouped.sum(rt, alloc, &pool)
 }
@@ -137,6 +137,23 @@ fn refused_groupings(rt: HostRuntime) -> Result<(), Fail> {
     for (by, selected, told) in cases {
         let made = sums(&rt, alloc, &frame, by, selected);
         assert_eq!(rt; refusal(alloc, made)?.as_str(), told);
+    }
+    Ok(())
+}
+
+// The number of rows that agree, in the order in which groups are found: one partition leaves them in that of
+// first rows.
+#[test]
+fn groups_as_they_are_found(rt: HostRuntime) -> Result<(), Fail> {
+    let alloc = rt.alloc();
+    let frame = days(&rt, alloc)?;
+    let by = names(alloc, &["date"])?;
+    for partitions in [1, 4] {
+        let pool = Pool::new(2, partitions, 1, 1, 0);
+        let grouped = frame.group_by(&rt, alloc, &by, &pool)?;
+        assert_eq!(rt; grouped.get_groups().view().len(), 3);
+        let counted = grouped.count(&rt, alloc, &pool)?;
+        assert_eq!(rt; (counted.height(), counted.width()), (3, 2));
     }
     Ok(())
 }

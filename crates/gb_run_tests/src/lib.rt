@@ -4,6 +4,8 @@
 #[cfg(test)]
 mod explained;
 #[cfg(test)]
+mod group_agg;
+#[cfg(test)]
 mod group_by;
 #[cfg(test)]
 mod many_rows;

@@ -4,7 +4,6 @@ use Rattle.gb_defs.specs.Slot.{Slot}
 use Rattle.gb_defs.specs.ColumnType.{uint32}
 use Rattle.gb_defs.specs.Fold.{Count}
 use Rattle.gb_defs.specs.Groups.{lists_in}
-use Rattle.gb_agg.specs.GroupPart.{part_of}
 use Rattle.gb_series.specs.Series.{value_of}
 use Rattle.gb_paths.proofs.MemberLemmas.{members_more}
 use Rattle.gb_agg.specs.Folds.{fold_column, fold_in, rows_fold}
@@ -20,7 +19,7 @@ fold_groups-requires-else-include_nulls-clause-rows c = rw c.new.ensures c.requi
 pub returns-then-include_nulls-clause-ok : goal.returns-then-include_nulls-clause-ok
 returns-then-include_nulls-clause-ok c =
     let column = value_of c.args.column.now in
-    let lists = lists_in (part_of c.args.groups.now) in
+    let lists = lists_in c.args.groups.now in
     let named = c.in_ok-name.ensures.ok ∙ c.name.ensures in
     rw c.if-include_nulls.true (IfOk-weaker c.fold_groups.result _ _ (λ counts e. e
     ∙ ap (λ (n : List ℕ). fold_column n uint32 rows_fold lists) named
@@ -29,7 +28,7 @@ returns-then-include_nulls-clause-ok c =
 pub returns-else-include_nulls-clause-ok : goal.returns-else-include_nulls-clause-ok
 returns-else-include_nulls-clause-ok c =
     let column = value_of c.args.column.now in
-    let lists = lists_in (part_of c.args.groups.now) in
+    let lists = lists_in c.args.groups.now in
     let named = c.in_ok-name.ensures.ok ∙ c.name.ensures in
     let made = rw c.new.ensures at c.fold_groups-else-include_nulls.ensures.ok in
     rw c.if-include_nulls.false (IfOk-weaker c.fold_groups-else-include_nulls.result _ _ (λ counts e. e ∙ ap (λ (n : List ℕ). fold_column n uint32 (fold_in (Count false) column) lists) named) made)

@@ -2,7 +2,6 @@ use Rattle.std.proofs.Common.{◌∙◌, ap}
 use Rattle.std.proofs.lemmas.Result.{IfOk-weaker}
 use Rattle.gb_defs.specs.Column.{ColumnValue, content}
 use Rattle.gb_defs.specs.Groups.{lists_in}
-use Rattle.gb_groups.specs.GroupsType.{groups_of}
 use Rattle.gb_agg.specs.Folds.{folded}
 use Rattle.gb_agg.specs.Method.{method_of}
 use Rattle.gb_agg.proofs.by_workers.aggregate_by_parts.Goals as goal
@@ -18,7 +17,7 @@ returns-clause-fits g c = rw c.in_ok-whole.ensures.ok at c.aggregate_whole-2.ens
 
 pub returns-clause-ok : goal.returns-clause-ok
 returns-clause-ok g c =
-    let lists = lists_in (groups_of c.args.groups.now) in
+    let lists = lists_in c.args.groups.now in
     IfOk-weaker c.aggregate_whole-2.result _ _ (λ s e. e ∙ ap (λ (v : ColumnValue). content (folded (method_of c.args.method) v lists)) c.in_ok-whole.ensures.ok)
     c.aggregate_whole-2.ensures.ok
 

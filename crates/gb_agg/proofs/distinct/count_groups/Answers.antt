@@ -2,13 +2,12 @@ use Rattle.std.proofs.Common.{◌∙◌, ◌<◌, [], arith, length}
 use Rattle.std.proofs.lemmas.List.{get_or_default}
 use Rattle.gb_defs.specs.Groups.{AreMembers}
 use Rattle.gb_groups.specs.GroupsIndicator.{pair_of}
-use Rattle.gb_agg.specs.GroupPart.{part_of}
 use Rattle.gb_agg.proofs.ListLemmas.{list_at}
 use Rattle.gb_agg.proofs.distinct.count_groups.Goals as goal
 
 pub count_group-count-requires-clause-rows : goal.count_group-count-requires-clause-rows
 count_group-count-requires-clause-rows c =
-    let pairs = (part_of c.args.groups.now).pairs in
+    let pairs = c.args.groups.now.pairs in
     let place = c.loop-place.place in
     let pair = pair_of c.get.result in
     let lt : place < length pairs = omega (arith, c.loop-place-test.true, c.len-place-end.ensures) in

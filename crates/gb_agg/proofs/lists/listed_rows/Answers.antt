@@ -2,7 +2,6 @@ use Rattle.std.proofs.Common.{◌∙◌, ◌≡◌, ◌<◌, ◌+◌, ◌++◌, 
 use Rattle.std.proofs.lemmas.List.{get_or_default, map-append, take_more}
 use Rattle.gb_defs.specs.Groups.{rows_of_pair}
 use Rattle.gb_groups.specs.GroupsIndicator.{pair_of}
-use Rattle.gb_agg.specs.GroupPart.{part_of}
 use Rattle.gb_agg.specs.Lists.{HaveNumbers}
 use Rattle.gb_agg.proofs.ListLemmas.{list_at}
 use Rattle.gb_agg.proofs.ListedLemmas.{listed_more}
@@ -10,7 +9,7 @@ use Rattle.gb_agg.proofs.lists.listed_rows.Goals as goal
 
 pub push_group-requires : goal.push_group-requires
 push_group-requires c =
-    let pairs = (part_of c.args.groups.now).pairs in
+    let pairs = c.args.groups.now.pairs in
     let place = c.loop-place.place in
     let pair = pair_of c.get.result in
     let lt : place < length pairs = omega (arith, c.loop-place-test.true, c.len-place-end.ensures) in
@@ -18,7 +17,7 @@ push_group-requires c =
 
 pub loop-place-preserved : goal.loop-place-preserved
 loop-place-preserved c =
-    let pairs = (part_of c.args.groups.now).pairs in
+    let pairs = c.args.groups.now.pairs in
     let place = c.loop-place.place in
     let before = map rows_of_pair (take place pairs) in
     let more = rows_of_pair (pair_of c.get.result) in

@@ -5,14 +5,13 @@ use Rattle.gb_defs.specs.Groups.{AreMembers, rows_of_pair}
 use Rattle.gb_base.specs.PlSmallStr.{name_of}
 use Rattle.gb_groups.specs.GroupsIndicator.{pair_of}
 use Rattle.gb_agg.specs.Folds.{fold_column}
-use Rattle.gb_agg.specs.GroupPart.{part_of}
 use Rattle.gb_agg.proofs.FoldingLemmas.{column_next}
 use Rattle.gb_agg.proofs.ListLemmas.{list_at}
 use Rattle.gb_agg.proofs.number_fold.fold_groups.Goals as goal
 
 pub fold_group-requires : goal.fold_group-requires
 fold_group-requires g c =
-    let pairs = (part_of c.args.groups.now).pairs in
+    let pairs = c.args.groups.now.pairs in
     let place = c.loop-place.place in
     let pair = pair_of c.get.result in
     let lt : place < length pairs = omega (arith, c.loop-place-test.true, c.len-place-end.ensures) in
@@ -20,7 +19,7 @@ fold_group-requires g c =
 
 pub push-requires : goal.push-requires
 push-requires g c =
-    let pairs = (part_of c.args.groups.now).pairs in
+    let pairs = c.args.groups.now.pairs in
     let place = c.loop-place.place in
     let front = take place pairs in
     let lt : place < length pairs = omega (arith, c.loop-place-test.true, c.len-place-end.ensures) in
@@ -36,7 +35,7 @@ push-requires g c =
 
 pub loop-place-preserved : goal.loop-place-preserved
 loop-place-preserved g c =
-    let pairs = (part_of c.args.groups.now).pairs in
+    let pairs = c.args.groups.now.pairs in
     let place = c.loop-place.place in
     let fold = g.F.NumberFold.fold c.args.fold.now in
     let t = Flat g.F.Out.Native.Native.flat in
@@ -47,7 +46,7 @@ loop-place-preserved g c =
 
 pub returns-clause-ok : goal.returns-clause-ok
 returns-clause-ok g c =
-    let pairs = (part_of c.args.groups.now).pairs in
+    let pairs = c.args.groups.now.pairs in
     c.loop-place.invariant
     ∙ ap (λ (ps : List (ℕ × List ℕ)). fold_column (name_of c.args.name) (Flat g.F.Out.Native.Native.flat) (g.F.NumberFold.fold c.args.fold.now) (map rows_of_pair ps))
     (take_all c.loop-place.place pairs (omega (arith, c.loop-place-test.false, c.len-place-end.ensures)))

@@ -1,12 +1,15 @@
 use Rattle.std.proofs.Common.{◌≡◌, ◌∙◌, ◌<◌, [], ◌∷◌, ap, arith, length, subst, sym, true}
 use Rattle.std.proofs.lemmas.List.{length-map}
 use Rattle.std.proofs.lemmas.Result.{IfOk-weaker}
-use Rattle.gb_defs.specs.Column.{Frame, NotSorted}
+use Rattle.gb_defs.specs.Classes.{agree_by}
+use Rattle.gb_defs.specs.Column.{Frame, NotSorted, frame_height}
+use Rattle.gb_defs.specs.Groups.{Grouping}
 use Rattle.gb_defs.specs.Notes.{detected}
 use Rattle.gb_groups.specs.GroupsType.{groups_of}
 use Rattle.gb_series.specs.Series.{value_of}
 use Rattle.gb_rows.specs.Lent.{keys_in}
-use Rattle.gb_paths.specs.Tuples.{AreFound, path_value, tuples_by}
+use Rattle.gb_paths.specs.Tuples.{AreClasses, AreFound, path_value, slots_of, tuples_by}
+use Rattle.gb_paths.proofs.ClassLemmas.{found_classes, keys_classes}
 use Rattle.gb_paths.proofs.OrderLemmas.{detected_classes, several_detected, several_found, several_path}
 use Rattle.gb_paths.proofs.SeveralLemmas.{also_ok, classes_by, only_lent}
 use Rattle.gb_paths.proofs.by_keys.group_by_detected.Goals as goal
@@ -58,3 +61,21 @@ returns-clause-classes g c =
     IfOk-weaker c.group_several.result _ _ (λ made h sorted. ap (λ g. g.pairs) h
     ∙ ap (λ s. (tuples_by keys c.args.multithreaded s pool).pairs) sorted
     ∙ classes_by keys c.args.multithreaded pool some) c.group_several.ensures.ok
+
+pub returns-then-keys-eq1-clause-whole : goal.returns-then-keys-eq1-clause-whole
+returns-then-keys-eq1-clause-whole g c =
+    let lent = c.args.keys.now in
+    let key = c.index-keys-0.result in
+    let one = value_of key.now ∷ [] in
+    let same : one ≡ keys_in lent = ap (λ k. value_of k.now ∷ []) c.index-keys-0.is ∙ sym (only_lent lent key c.if-keys-eq1.true) in
+    IfOk-weaker c.group_in_order.result _ _ (λ made h. subst (λ (ks : Frame). AreClasses (agree_by (slots_of ks)) (frame_height ks) (groups_of made.0).pairs) same
+    (subst (λ (g : Grouping). AreClasses (agree_by (slots_of one)) (frame_height one) g.pairs) (sym h.groups_are)
+    (found_classes h.flag one c.args.multithreaded c.args.sorted c.args.pool.now (omega arith)))) c.group_in_order.ensures.ok
+
+pub returns-clause-whole : goal.returns-clause-whole
+returns-clause-whole g c =
+    let lent = c.args.keys.now in
+    let keys = keys_in lent in
+    let some : 0 < length keys = rw (length-map lent (λ key. value_of key.now)) c.requires.some in
+    IfOk-weaker c.group_several.result _ _ (λ made h. subst (λ (g : Grouping). AreClasses (agree_by (slots_of keys)) (frame_height keys) g.pairs) (sym h)
+    (keys_classes keys c.args.multithreaded c.args.sorted c.args.pool.now some)) c.group_several.ensures.ok

@@ -4,7 +4,7 @@ use Rattle.std.proofs.lemmas.Result.{IfErr-weaker, IfOk-weaker}
 use Rattle.std.proofs.lemmas.Simd.{map-map}
 use Rattle.gb_base.specs.PolarsError.{Explains}
 use Rattle.gb_defs.specs.Column.{Content, content}
-use Rattle.gb_defs.specs.Groups.{first_of, lists_in, rows_of_pair}
+use Rattle.gb_defs.specs.Groups.{Grouping, first_of, lists_in, rows_of_pair}
 use Rattle.gb_series.specs.Frame.{frame_fault}
 use Rattle.gb_series.specs.Series.{value_of}
 use Rattle.gb_series.specs.declared.series.Series.{Series}
@@ -27,7 +27,7 @@ returns g c =
     map-map content value_of columns
     ∙ ap contents_of c.in_ok-append.ensures.items
     ∙ map-append (λ (s : Series). content (value_of s)) c.in_ok-columns.columns.items c.in_ok-folded.folded.items
-    ∙ ap (λ (cs : List Content). contents_of c.in_ok-columns.columns.items ++ cs) c.in_ok-folded.ensures.ok
+    ∙ ap (λ (cs : List Content). contents_of c.in_ok-columns.columns.items ++ cs) (c.in_ok-folded.ensures.ok ∙ ap (λ (g : Grouping). aggregates_over frame aggs (lists_in g)) c.view.ensures)
     ∙ ap (λ (cs : List Content). cs ++ aggregates_over frame aggs (lists_in groups)) c.in_ok-columns.ensures.ok in
     let same = length-map groups.pairs first_of ∙ sym (length-map groups.pairs rows_of_pair) in
     let fault : aggs_fault frame keys aggs ≡ frame_fault (map value_of columns) =

@@ -1,7 +1,0 @@
-use Rattle.std.proofs.Common.{◌≡◌, map, take}
-use Rattle.gb_defs.specs.Groups.{first_of}
-use Rattle.gb_groups.specs.GroupsType.{groups_of}
-use Rattle.gb_frame.proofs.group_frame.first_rows.Given as goal
-
-abbrev pub invariant-loop-place : goal.invariant-loop-place
-invariant-loop-place l = l.rows.items ≡ map first_of (take l.place (groups_of l.groups).pairs)

@@ -1,0 +1,128 @@
+//! The columns of an answer: the keys at the first rows of groups, and the aggregates over their rows.
+
+ghost use Rattle.std.specs.Prelude.{◌≡◌, All, None, false, is_none, map, IfErr, IfOk, OnOk};
+ghost use Rattle.gb_base.specs.PlSmallStr.{IsNoMemory, name_of};
+ghost use Rattle.gb_base.specs.PolarsError.{Explains};
+ghost use Rattle.gb_defs.specs.Answer.{aggregated};
+ghost use Rattle.gb_defs.specs.Column.{content, find_column, taken};
+ghost use Rattle.gb_defs.specs.Fault.{missing_fault, unfit_fault};
+ghost use Rattle.gb_defs.specs.Groups.{lists_in};
+ghost use Rattle.gb_rows.specs.Lent.{keys_in};
+ghost use Rattle.gb_series.specs.Series.{value_of};
+ghost use Rattle.gb_frame.specs.Agg.{agg_of, aggs_of};
+ghost use Rattle.gb_frame.specs.Grouping.{AreGroupsIn, HasColumn, HasRows, aggregates_over, contents_of, firsts_in, unfit_cause};
+
+use crate::agg::Agg;
+use gb_agg::by_workers::aggregate_all;
+use gb_agg::lists::row_lists;
+use gb_agg::method::fmt_group_by_column;
+use gb_base::error::PolarsResult;
+use gb_base::nullable_idx::IdxSize;
+use gb_base::pool::Pool;
+use gb_cols::series_trait::SeriesTrait;
+use gb_groups::view::GroupsView;
+use gb_series::frame::DataFrame;
+use gb_series::series::Series;
+use std::alloc::{AllocError, Global};
+use std::thread::Threads;
+
+// The keys at some rows.
+pub(crate) fn keys_at(
+    alloc: Global,
+    keys: &[&Series],
+    rows: &[IdxSize],
+) -> PolarsResult<Vec<Series>>
+    requires { All (HasRows rows.now) (keys_in keys.now) }
+    ensures ok { let taken = map (λ key. content (taken rows.now key)) (keys_in keys.now) in
+        IfOk result (λ columns. contents_of columns.items ≡ taken) }
+    ensures err { IfErr result IsNoMemory }
+{
+    let mut columns = Vec::with_capacity(alloc, keys.len())?;
+    for key in keys {
+        columns.push(key.take(rows)?)?;
+    }
+    Ok(columns)
+}
+
+// The first row of each group.
+pub(crate) fn first_rows(
+    alloc: Global,
+    groups: &GroupsView<'_>,
+) -> Result<Vec<IdxSize>, AllocError>
+    ensures { IfOk result (λ rows. rows.items ≡ firsts_in groups.now) }
+{
+    let mut rows = Vec::with_capacity(alloc, groups.len())?;
+    for place in 0..groups.len() {
+        rows.push(groups.get(place).first())?;
+    }
+    Ok(rows)
+}
+
+// The aggregates over the rows of each group.
+pub(crate) fn aggregates<R: Threads + Sync>(
+    rt: &R,
+    alloc: Global,
+    frame: &DataFrame,
+    aggs: &[Agg],
+    groups: &GroupsView<'_>,
+    pool: &Pool,
+) -> PolarsResult<Vec<Series>>
+    requires groups { AreGroupsIn frame.now groups.now }
+    requires found { missing_fault frame.now (aggs_of aggs.now) ≡ None }
+    ensures ok { IfOk result (λ columns. contents_of columns.items
+        ≡ aggregates_over frame.now (aggs_of aggs.now) (lists_in groups.now)) }
+    ensures fits { OnOk result (unfit_fault frame.now (aggs_of aggs.now) ≡ None) }
+    ensures err { IfErr result (λ e. Explains e (unfit_fault frame.now (aggs_of aggs.now))) }
+{
+    let mut columns = Vec::with_capacity(alloc, aggs.len())?;
+    for agg in aggs {
+        columns.push(agg_column(rt, alloc, frame, agg, groups, pool)?)?;
+    }
+    Ok(columns)
+}
+
+// An aggregate over the rows of each group.
+fn agg_column<R: Threads + Sync>(
+    rt: &R,
+    alloc: Global,
+    frame: &DataFrame,
+    agg: &Agg,
+    groups: &GroupsView<'_>,
+    pool: &Pool,
+) -> PolarsResult<Series>
+    requires groups { AreGroupsIn frame.now groups.now }
+    requires found { HasColumn frame.now agg.now }
+    ensures ok { IfOk result (λ s. content (value_of s) ≡ aggregated (agg_of agg.now)
+        (find_column frame.now (name_of agg.now.column)) (lists_in groups.now)) }
+    ensures fits { OnOk result (unfit_cause frame.now agg.now ≡ None) }
+    ensures err { IfErr result (λ e. Explains e (unfit_cause frame.now agg.now)) }
+{
+    if agg.method.needs_column() {
+        return found_aggregate(rt, alloc, frame, agg, groups, pool);
+    }
+    let name = fmt_group_by_column(alloc, agg.column.as_str(), agg.method)?;
+    row_lists(alloc, name, groups)
+}
+
+// The aggregate of a column that the frame has.
+fn found_aggregate<R: Threads + Sync>(
+    rt: &R,
+    alloc: Global,
+    frame: &DataFrame,
+    agg: &Agg,
+    groups: &GroupsView<'_>,
+    pool: &Pool,
+) -> PolarsResult<Series>
+    requires groups { AreGroupsIn frame.now groups.now }
+    requires found { is_none (find_column frame.now (name_of agg.now.column)) ≡ false }
+    ensures ok { IfOk result (λ s. content (value_of s) ≡ aggregated (agg_of agg.now)
+        (find_column frame.now (name_of agg.now.column)) (lists_in groups.now)) }
+    ensures fits { OnOk result (unfit_cause frame.now agg.now ≡ None) }
+    ensures err { IfErr result (λ e. Explains e (unfit_cause frame.now agg.now)) }
+{
+    let name = agg.column.as_str();
+    let column = frame.column(name)?;
+    let mut folded = aggregate_all(rt, alloc, column, agg.method, groups, pool)?;
+    folded.rename(fmt_group_by_column(alloc, name, agg.method)?);
+    Ok(folded)
+}
