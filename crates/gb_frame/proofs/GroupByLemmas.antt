@@ -6,7 +6,7 @@ use Rattle.std.proofs.lemmas.List.{append-nil, map-append, take_more}
 use Rattle.std.proofs.lemmas.List.Elements.{filter-append}
 use Rattle.std.proofs.lemmas.List.Folds.{list_any-append}
 use Rattle.std.specs.Result.{result_err}
-use Rattle.gb_defs.specs.Column.{Frame, content, first_repeated, frame_height, names_of}
+use Rattle.gb_defs.specs.Column.{ColumnValue, Frame, content, first_repeated, frame_height, names_of}
 use Rattle.gb_defs.specs.Fault.{Fault, duplicate_of, missing_fault, rows_fault, unfit_fault}
 use Rattle.gb_defs.specs.Fold.{Method}
 use Rattle.gb_defs.specs.Outcome.{find_columns}
@@ -56,7 +56,7 @@ module _ (frame keys : Frame) (aggs : List (List ℕ × Method)) where
 
 -- ---- the columns that are chosen
 
-any_found : {A : Type 0} (p : A → Bool) (xs : List A) (i : ℕ) (x : A) → i < length xs → x ≡ get_or xs i x → p x ≡ true → list_any p xs ≡ true
+pub any_found : {A : Type 0} (p : A → Bool) (xs : List A) (i : ℕ) (x : A) → i < length xs → x ≡ get_or xs i x → p x ≡ true → list_any p xs ≡ true
 any_found p [] i x lt is h = absurd (omega (arith, lt))
 any_found p (y ∷ ys) zero x lt is h = rw (sym (ap p is) ∙ h) refl
 any_found p (y ∷ ys) (suc i) x lt is h = rw (any_found p ys i x (omega (arith, lt)) is h) (or_true (p y))
@@ -68,9 +68,13 @@ any_found p (y ∷ ys) (suc i) x lt is h = rw (any_found p ys i x (omega (arith,
 any_more : {A : Type 0} (p : A → Bool) (xs : List A) (i : ℕ) (x : A) → i < length xs → x ≡ get_or xs i x → list_any p (take i xs) ≡ false → p x ≡ false → list_any p (take (i + 1) xs) ≡ false
 any_more p xs i x lt is none h = rw (take_more xs i x lt, list_any-append p (take i xs) (get_or xs i x ∷ []), none, sym (ap p is) ∙ h) refl
 
+-- a test of what elements stand for
+pub any_mapped : {A B : Type 0} (p : B → Bool) (f : A → B) (xs : List A) → list_any p (map f xs) ≡ list_any (λ x. p (f x)) xs
+any_mapped p f [] = refl
+any_mapped p f (x ∷ xs) = ap (λ b. p (f x) || b) (any_mapped p f xs)
+
 any_named : (name : List ℕ) (keys : List (Bor Series)) → list_any (bytes_eq name) (names_of (keys_in keys)) ≡ list_any (λ (k : Bor Series). bytes_eq name (value_of k.now).name) keys
-any_named name [] = refl
-any_named name (k ∷ ks) = ap (λ b. bytes_eq name (value_of k.now).name || b) (any_named name ks)
+any_named name keys = any_mapped (bytes_eq name) (λ (c : ColumnValue). c.name) (keys_in keys) ∙ any_mapped (λ (c : ColumnValue). bytes_eq name c.name) (λ (k : Bor Series). value_of k.now) keys
 
 module _ (name : List ℕ) (keys : List (Bor Series)) (i : ℕ) (key : Bor Series) (lt : i < length keys) (is : key ≡ get_or keys i key) where
   pub key_named : bytes_eq name (value_of key.now).name ≡ true → true ≡ list_any (bytes_eq name) (names_of (keys_in keys))

@@ -1,10 +1,9 @@
 -- Keys that have neither as many rows as are grouped nor one.
-use Rattle.std.proofs.Common.{◌≡◌, ◌∙◌, ◌==◌, ◌||◌, ℕ, ◌<◌, Bool, true, false, inl, inr, not, List, [], ◌∷◌, Some, None, arith, zero, suc, length, get_or, nat_lt, refl, sym, ap, eq-eqb, Result, Ok, Err}
+use Rattle.std.proofs.Common.{◌≡◌, ◌∙◌, ◌==◌, ◌||◌, ℕ, ◌<◌, Bool, true, false, inl, inr, not, List, [], ◌∷◌, Some, None, arith, suc, length, get_or, nat_lt, refl, eq-eqb}
 use Rattle.std.specs.List.{list_any}
 use Rattle.std.proofs.lemmas.Bool.{cases_Bool, eqb-true, ltb-false}
 use Rattle.gb_defs.specs.Column.{ColumnValue, Frame}
 use Rattle.std.specs.Option.{option_or}
-use Rattle.std.specs.Result.{IfOk, OnOk}
 use Rattle.gb_defs.specs.Answer.{height_of}
 use Rattle.gb_defs.specs.Fault.{ShapeMismatch, keyless_fault, rows_fault, shape_fault}
 use Rattle.gb_defs.specs.Groups.{HasRowNumbers}
@@ -12,6 +11,7 @@ use Rattle.gb_frame.specs.declared.key.Key.{Key}
 use Rattle.gb_frame.specs.Key.{AreOrOne, IsOrOne, columns_of, key_value}
 use Rattle.gb_frame.specs.Refusals.{keys_fault}
 use Rattle.gb_frame.proofs.CauseLemmas.{or_none}
+use Rattle.gb_frame.proofs.GroupByLemmas.{any_found, any_mapped}
 use Rattle.gb_frame.proofs.GroupingLemmas.{keyless_none}
 
 module _ (height : ℕ) where
@@ -27,18 +27,11 @@ module _ (height : ℕ) where
     ]
   ]
 
-  any_or : (b : Bool) → (b || true) ≡ true
-  any_or true = refl
-  any_or false = refl
-
-  any_at : (keys : List Key) (i : ℕ) (key : Key) → i < length keys → key ≡ get_or keys i key → misfits (key_value key) ≡ true → list_any misfits (columns_of keys) ≡ true
-  any_at [] i key lt is h = absurd (omega (arith, lt))
-  any_at (k ∷ ks) zero key lt is h = rw (sym (ap (λ k. misfits (key_value k)) is) ∙ h) refl
-  any_at (k ∷ ks) (suc i) key lt is h = rw (any_at ks i key (omega (arith, lt)) is h) (any_or (misfits (key_value k)))
-
   pub other_length : (keys : List Key) (i : ℕ) (key : Key) → i < length keys → key ≡ get_or keys i key → (long : ℕ) → long ≡ length (key_value key).slots → (long ≡ height → ⊥) → (long ≡ 1 → ⊥)
       → shape_fault height (columns_of keys) ≡ Some ShapeMismatch
-  other_length keys i key lt is long same other more = rw (any_at keys i key lt is (neither (key_value key) long same other more)) refl
+  other_length keys i key lt is long same other more =
+      let bad = neither (key_value key) long same other more in
+      rw (any_mapped misfits key_value keys ∙ any_found (λ (k : Key). misfits (key_value k)) keys i key lt is bad) refl
 
   fits_not : (key : ColumnValue) → IsOrOne height key → misfits key ≡ false
   fits_not key (inl e) = rw (eq-eqb (length key.slots) height e) refl
@@ -77,8 +70,3 @@ fitting_few frame keys none =
     let height = height_of frame keys in
     let behind = (or_none (keyless_fault keys) (option_or (shape_fault height keys) (rows_fault height)) none).1 in
     few_of height (or_none (shape_fault height keys) (rows_fault height) behind).1
-
--- two facts of one value that give a third
-pub both_ok : {A E : Type 0} (r : Result A E) (P : A → Type 0) (Q : Type 0) (T : A → Type 0) → ((a : A) → P a → Q → T a) → IfOk r P → OnOk r Q → IfOk r T
-both_ok (Ok a) P Q T f p q = f a p q
-both_ok (Err e) P Q T f p q = tt

@@ -4,6 +4,7 @@ use Rattle.std.proofs.lemmas.Result.{IfErr-weaker, IfOk-weaker, err_from_is_err_
 use Rattle.gb_defs.specs.Column.{content}
 use Rattle.gb_defs.specs.Fault.{fault, missing_fault}
 use Rattle.gb_base.specs.PolarsError.{Explains, cause_of}
+use Rattle.gb_paths.proofs.SeveralLemmas.{also_ok}
 use Rattle.gb_paths.specs.Tuples.{trace_value}
 use Rattle.gb_paths.specs.declared.trace.Trace.{Trace}
 use Rattle.gb_rows.specs.Lent.{keys_in}
@@ -14,7 +15,7 @@ use Rattle.gb_frame.specs.Answers.{IsAnswerOver, IsTracedAnswer}
 use Rattle.gb_frame.specs.Key.{columns_of, stretched_keys}
 use Rattle.gb_frame.specs.Refusals.{aggs_fault, keys_fault}
 use Rattle.gb_frame.proofs.CauseLemmas.{cause_first}
-use Rattle.gb_frame.proofs.KeyLemmas.{both_ok, keyless_some}
+use Rattle.gb_frame.proofs.KeyLemmas.{keyless_some}
 use Rattle.gb_frame.proofs.StretchLemmas.{answer_sorted, answer_traced, fault_after, fault_parts, stretched_aligned}
 use Rattle.gb_frame.proofs.group_agg.group_agg_traced.Goals as goal
 
@@ -71,12 +72,12 @@ returns-clause-sorted g c =
     let none : keys_fault frame keys ≡ None = subst (λ ks. keys_fault frame ks ≡ None) c.in_ok-lent_keys.ensures c.in_ok-keys.ensures.fits in
     let same : keys_in c.deref-2.result.now ≡ stretched_keys frame keys =
     ap keys_in c.deref-2.ensures.value ∙ c.in_ok-lent.ensures ∙ ap columns_of c.deref.ensures.value ∙ c.in_ok-keys.ensures.ok ∙ ap (stretched_keys frame) c.in_ok-lent_keys.ensures in
-    both_ok c.answer_over.result _ _ _
-    (λ made is fits sorted.
+    IfOk-weaker c.answer_over.result _ _
+    (λ made both sorted.
     answer_sorted frame keys c.in_ok-keys.ensures.frame (keyless_some frame keys none) aggs c.args.options c.args.pool.now (map content made.0) (trace_value made.1)
-    (subst (λ ks. IsAnswerOver frame ks aggs c.args.options c.args.pool.now (map content made.0) (trace_value made.1)) same is)
-    (sym (fault_after frame keys aggs none) ∙ ap (λ ks. aggs_fault frame ks aggs) (sym same) ∙ fits) sorted)
-    c.answer_over.ensures.ok c.answer_over.ensures.fits
+    (subst (λ ks. IsAnswerOver frame ks aggs c.args.options c.args.pool.now (map content made.0) (trace_value made.1)) same both.0)
+    (sym (fault_after frame keys aggs none) ∙ ap (λ ks. aggs_fault frame ks aggs) (sym same) ∙ both.1) sorted)
+    (also_ok c.answer_over.result _ _ c.answer_over.ensures.ok c.answer_over.ensures.fits)
 
 pub returns-clause-fits : goal.returns-clause-fits
 returns-clause-fits g c =
