@@ -18,7 +18,7 @@ from contextlib import ExitStack
 
 from chart import chart
 from others import NotAtRest, Others
-from programs import FOLDER, PEERS, build_baseline, installed_peers, own_programs
+from programs import BASELINE, FOLDER, PEERS, build_rust, installed_peers, own_programs
 from report import put_between_marks, report
 from samples import measure
 from tables import CASES, make_table, remove_table
@@ -89,7 +89,7 @@ def run(options, tool, others):
     with ExitStack() as stack:
         build = stack.enter_context(tempfile.TemporaryDirectory(prefix="gb_bench_build_"))
         folder = stack.enter_context(tempfile.TemporaryDirectory(prefix="gb_bench_", dir=options.out))
-        programs = own_programs(tool, build_baseline(build), options.workers)
+        programs = own_programs(tool, build_rust(BASELINE, build), options.workers)
         programs += installed_peers(options.peers, options.workers, folder, stack)
         others.servers = list({program.server for program in programs if program.server})
         return measure_all(options, programs, others, folder)

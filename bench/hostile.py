@@ -1,11 +1,10 @@
 """Tables that a stranger writes to keep the program busy, and limits and devices that fail it.
 
-The hashes of the program are known, and can be turned round: keys are made here that share bits of their hashes
-under the seed 0. Each such table is grouped, and one of as many keys drawn by chance (keys). Then come tables that
-are large in one way, each beside one half as large (shapes), a table of 20 MB within limits of address space
-(memory), and streams that are full, closed, no files, or left early (devices). What is written are tables in
-Markdown. Where a status or an answer is not the one that is right, the script says so and stops; no time is judged.
-It wants numpy.
+The hashes of the program are known, and can be turned round: `crafted` makes keys that share bits of their hashes
+under the seed 0, and as many by chance. Both are grouped (keys). Then come tables that are large in one way, each
+beside one half as large (shapes), a table of 20 MB within limits of address space (memory), and streams that are
+full, closed, no files, or left early (devices). What is written are tables in Markdown. Where a status or an answer
+is not the one that is right, the script says so and stops; no time is judged. It wants a Rust compiler.
 
     python3 bench/hostile.py --tool crates/gb_tool/out/gb_tool --rows 100000,1000000 --workers 1,4
 """
@@ -13,177 +12,38 @@ It wants numpy.
 import argparse
 import functools
 import os
+import random
 import resource
 import subprocess
 import tempfile
 import time
 
-import numpy
+from programs import build_rust
 
-WORD = numpy.uint64
-FIRST, SECOND = WORD(0xBF58476D1CE4E5B9), WORD(0x94D049BB133111EB)
-FIRST_BACK, SECOND_BACK = (WORD(pow(int(factor), -1, 2**64)) for factor in (FIRST, SECOND))
-HIGH_BITS, LOW_BITS = WORD(0x8080808080808080), WORD(0x7F7F7F7F7F7F7F7F)
-PLAIN = numpy.array([byte for byte in range(1, 128) if byte not in b',"\r\n'], numpy.uint8)
-IS_PLAIN = numpy.isin(numpy.arange(256), PLAIN)
-# Words that fit a processor's nearest caches.
-BLOCK = 1 << 14
 # A run that takes longer, in seconds, is ended.
 PATIENCE = 60
+# Twenty limits of address space from 16 MB to 1 GB, each as many times the one before.
+LIMITS = [int(2 ** (24 + 6 * place / 19)) for place in range(20)]
 
 
-def folded(words, bits):
-    return words ^ (words >> WORD(bits))
+# What keys are, and what `crafted` calls them.
+KEYS = (
+    ("numbers, low bits shared", "low"),
+    ("numbers, high bits shared", "high"),
+    ("numbers, other than middle bits shared", "ends"),
+    ("texts of 8 bytes", "text1"),
+    ("texts of 16 bytes", "text2"),
+    ("texts of 24 bytes", "text3"),
+    ("two keys of numbers", "pairs"),
+    ("categories of 16 bytes", "categories"),
+    ("categories with one hash of a map with a fixed seed", "folded"),
+)
 
 
-def unfolded(words, bits):
-    found = words
-    for _ in range(64 // bits):
-        found = words ^ (found >> WORD(bits))
-    return found
-
-
-def mixed(words):
-    """The mixing function of the hashes."""
-    return folded(folded(folded(words, 30) * FIRST, 27) * SECOND, 31)
-
-
-def unmixed(words):
-    return unfolded(unfolded(unfolded(words, 31) * SECOND_BACK, 27) * FIRST_BACK, 30)
-
-
-def with_word(before, word):
-    return mixed(before ^ mixed(word))
-
-
-def null_hash():
-    zero = WORD(0)
-    return with_word(zero, with_word(zero, WORD(3188347919)))
-
-
-def hashes(count, shared):
-    """So many hashes that share bits: the low 32, the high 32, or all but the middle ones."""
-    places = numpy.arange(count, dtype=WORD)
-    fixed = WORD(0x123456789ABCDEF0)
-    if shared == "low":
-        return (places << WORD(32)) | (fixed & WORD(0xFFFFFFFF))
-    if shared == "high":
-        return places | (fixed & WORD(0xFFFFFFFF00000000))
-    return (places << WORD(22)) | (fixed & WORD(0x3FFFFF))
-
-
-def hash_blocks(bits, fixed):
-    """Hashes that differ and share so many low bits, in blocks without end."""
-    places = numpy.arange(BLOCK, dtype=WORD)
-    while True:
-        yield (places << WORD(bits)) | WORD(fixed)
-        places += WORD(BLOCK)
-
-
-def first_of(count, blocks):
-    """The first so many of what comes in blocks."""
-    taken, held = [], 0
-    for block in blocks:
-        taken.append(block)
-        held += len(block)
-        if held >= count:
-            break
-    return numpy.concatenate(taken)[:count]
-
-
-def plain_places(words):
-    """The places of the words whose bytes all stand in a table without quotes."""
-    places = numpy.flatnonzero((words & HIGH_BITS) == 0)
-    return places[IS_PLAIN[words[places].view(numpy.uint8).reshape(-1, 8)].all(axis=1)]
-
-
-def drawn_texts(count, length, draw):
-    """Texts of so many bytes, drawn by chance."""
-    return PLAIN[draw.integers(0, len(PLAIN), (count, length))].view(f"S{length}").reshape(-1).tolist()
-
-
-def drawn_numbers(count, draw):
-    return draw.integers(-(2**63), 2**63, count, dtype=numpy.int64).tolist()
-
-
-def numbers(count, shared):
-    return unmixed(unmixed(hashes(count, shared))).astype(numpy.int64).tolist()
-
-
-def texts(count, length, draw):
-    """Texts of so many words of eight bytes, whose hashes share their low 22 bits."""
-    front = b"".join(drawn_texts(length - 1, 8, draw))
-    before = null_hash()
-    for word in numpy.frombuffer(front, WORD):
-        before = with_word(before, word)
-
-    def blocks():
-        for ends in hash_blocks(22, 0x16789A):
-            words = unmixed(unmixed(unmixed(ends) ^ mixed(WORD(8 * length))) ^ before)
-            yield words[plain_places(words)]
-
-    return [front + word for word in first_of(count, blocks()).view("S8").tolist()]
-
-
-def pairs(count):
-    """Pairs of numbers whose row bytes share the low 32 bits of their hashes."""
-    first = WORD(int.from_bytes(bytes([1, 0x80, 0, 0, 0, 0, 0, 0]), "little"))
-    before = with_word(null_hash(), first)
-
-    def blocks():
-        for ends in hash_blocks(32, 0x9ABCDEF0):
-            words = unmixed(unmixed(unmixed(unmixed(ends) ^ mixed(WORD(18))) ^ mixed(WORD(0))) ^ before)
-            yield words[(words & WORD(0xFF00)) == WORD(0x0100)]
-
-    words = first_of(count, blocks())
-    right = ((words.byteswap() << WORD(16)) ^ WORD(2**63)).astype(numpy.int64)
-    return list(zip((words & WORD(0xFF)).tolist(), right.tolist()))
-
-
-def folded_product(left, right):
-    """Both halves of the product of words."""
-    low, high = WORD(0xFFFFFFFF), WORD(32)
-    a, b, c, d = left >> high, left & low, right >> high, right & low
-    middle = (b * d >> high) + (a * d & low) + (b * c & low)
-    upper = a * c + (a * d >> high) + (b * c >> high) + (middle >> high)
-    return (left * right) ^ upper
-
-
-def categories(count, draw):
-    """Texts of 16 bytes that share one hash in the map of categories."""
-    def blocks():
-        while True:
-            fronts = draw.integers(0, 2**63, BLOCK, dtype=WORD) & LOW_BITS
-            backs = folded_product(fronts ^ WORD(0x243F6A8885A308D3), WORD(0x9E3779B97F4A7C15))
-            words = numpy.column_stack((fronts, backs ^ WORD(0x123456789ABCDEF0)))
-            words = words[plain_places(words[:, 1])]
-            yield words[plain_places(words[:, 0].copy())]
-
-    return first_of(count, blocks()).view("S16").reshape(-1).tolist()
-
-
-def key_cases(count, draw):
-    """Names, headers, crafted keys and keys by chance."""
-    by_chance = drawn_numbers(count, draw)
-    for shared in ("low", "high", "other than middle"):
-        yield f"numbers, {shared} bits shared", "k:i64", numbers(count, shared), by_chance
-    for length in (1, 2, 3):
-        yield f"texts of {8 * length} bytes", "k:str", texts(count, length, draw), drawn_texts(count, 8 * length, draw)
-    chance = list(zip(draw.integers(0, 256, count).tolist(), by_chance))
-    yield "two keys of numbers", "k:i64,j:i64", pairs(count), chance
-    yield "categories", "k:cat", categories(count, draw), drawn_texts(count, 16, draw)
-
-
-def as_bytes(key):
-    if isinstance(key, bytes):
-        return key
-    return b"%d,%d" % key if isinstance(key, tuple) else b"%d" % key
-
-
-def write_table(path, header, keys):
+def write_keys(crafted, path, kind, count, *chance):
+    """Writes a table of keys that are crafted, or are by chance."""
     with open(path, "wb") as table:
-        table.write(header.encode() + b",v:i64\n")
-        table.writelines(as_bytes(key) + b",1\n" for key in keys)
+        subprocess.run([crafted, kind, str(count), *chance], stdout=table, check=True)
 
 
 def seconds(tool, words, table, code=0):
@@ -208,20 +68,21 @@ def said(took, amount):
     return f"over {amount}" if took >= PATIENCE else amount
 
 
-def keys_table(tool, rows, workers, folder, draw):
+def keys_table(tool, rows, workers, folder):
     """Crafted keys beside keys by chance, and each beside a tenth of as many."""
     print("| keys | rows | workers | crafted, s | by chance, s | ratio | crafted over a tenth | chance over a tenth |")
     print("|---|---:|---:|---:|---:|---:|---:|---:|")
-    crafted, chance = os.path.join(folder, "crafted.csv"), os.path.join(folder, "chance.csv")
+    crafted = build_rust("crafted", folder)
+    table, other_table = os.path.join(folder, "crafted.csv"), os.path.join(folder, "chance.csv")
     earlier = {}
     for count in rows:
-        for name, header, keys, others in key_cases(count, draw):
-            write_table(crafted, header, keys)
-            write_table(chance, header, others)
-            by = ["--by", "k", *(["--by", "j"] if "j:" in header else [])]
+        for name, kind in KEYS:
+            write_keys(crafted, table, kind, count)
+            write_keys(crafted, other_table, kind, count, "chance")
+            by = ["--by", "k", *(["--by", "j"] if kind == "pairs" else [])]
             for threads in workers:
                 words = ["group", *by, "--agg", "sum:v", "--agg", "n_unique:k", "--workers", str(threads)]
-                took, other = seconds(tool, words, crafted), seconds(tool, words, chance)
+                took, other = seconds(tool, words, table), seconds(tool, words, other_table)
                 tenth, other_tenth = earlier.get((name, threads, count // 10), (None, None))
                 growth = f"{said(took, f'{took / tenth:.1f}')} | {other / other_tenth:.1f}" if tenth else " | "
                 earlier[name, threads, count] = took, other
@@ -246,7 +107,7 @@ def by_key(table, *options):
 
 
 def random_bytes(count):
-    return numpy.random.default_rng(1).bytes(count)
+    return random.Random(1).randbytes(count)
 
 
 # What is many, how many, the words and the table by that, and the status.
@@ -292,14 +153,19 @@ def ended_run(tool, words, path, before=None, stdout=subprocess.PIPE):
     return ended.returncode, ended.stdout
 
 
-def memory_table(tool, workers, folder, draw):
+def write_limited(path):
+    """Writes a table of 20 MB: 100,000 texts of 30 bytes as keys, five rows each, and numbers of eight digits."""
+    draw = random.Random(1)
+    keys = [draw.randbytes(15).hex() for _ in range(100_000)]
+    with open(path, "w", encoding="ascii") as table:
+        table.write("k,v:i64\n")
+        table.writelines(f"{draw.choice(keys)},{draw.randrange(10**7, 10**8)}\n" for _ in range(500_000))
+
+
+def memory_table(tool, workers, folder):
     """One table within limits of address space: the right answer, or status 9 and nothing written."""
     path = os.path.join(folder, "limited.csv")
-    keys = drawn_texts(100_000, 30, draw)
-    cells = zip(draw.integers(0, len(keys), 500_000).tolist(), draw.integers(10**7, 10**8, 500_000).tolist())
-    with open(path, "wb") as table:
-        table.write(b"k,v:i64\n")
-        table.writelines(b"%b,%d\n" % (keys[place], value) for place, value in cells)
+    write_limited(path)
     print("| workers | bytes | limits with the answer | limits with status 9 | least limit with the answer, bytes |")
     print("|---:|---:|---:|---:|---:|")
     words = ["group", "--by", "k", "--agg", "sum:v", "--agg", "n_unique:v"]
@@ -308,14 +174,15 @@ def memory_table(tool, workers, folder, draw):
         raise SystemExit(f"memory, no limit: status {status}")
     for threads in workers:
         good = []
-        for limit in numpy.geomspace(2**24, 2**30, 20).astype(int).tolist():
+        for limit in LIMITS:
             bound = functools.partial(resource.setrlimit, resource.RLIMIT_AS, (limit, limit))
             status, written = ended_run(tool, [*words, "--workers", str(threads)], path, bound)
             if (status, written) not in ((0, answer), (9, b"")):
                 raise SystemExit(f"{limit} bytes, {threads} workers: status {status}, {len(written)} bytes written")
             good += [limit] if status == 0 else []
         least = f"{min(good):,}" if good else "none"
-        print(f"| {threads} | {os.path.getsize(path):,} | {len(good)} | {20 - len(good)} | {least} |", flush=True)
+        lacking = len(LIMITS) - len(good)
+        print(f"| {threads} | {os.path.getsize(path):,} | {len(good)} | {lacking} | {least} |", flush=True)
 
 
 def closing(stream):
@@ -325,9 +192,10 @@ def closing(stream):
 def device_cases(folder, full):
     """Names, the status that is right, the input, and what is different about the run."""
     every_row, faulty, empty = (os.path.join(folder, name) for name in ("every_row.csv", "faulty.csv", "empty.csv"))
-    write_table(every_row, "k", [b"row %d" % place for place in range(400_000)])
-    write_table(faulty, "k", [b"a,cell,too,many"])
-    open(empty, "wb").close()
+    rows = b"".join(b"row %d,1\n" % place for place in range(400_000))
+    for path, table in ((every_row, b"k,v:i64\n" + rows), (faulty, b"k,v:i64\na,cell,too,many\n"), (empty, b"")):
+        with open(path, "wb") as file:
+            file.write(table)
     yield "a full device as output", 6, every_row, {"stdout": full}
     yield "output closed", 6, every_row, {"before": closing(1)}
     yield "input closed", 5, every_row, {"before": closing(0)}
@@ -375,19 +243,18 @@ def main():
     parser.add_argument("--workers", default="1,4")
     parser.add_argument("--only", default="keys,shapes,memory,devices")
     options = parser.parse_args()
-    draw = numpy.random.default_rng(1)
     rows = sorted(int(count) for count in options.rows.split(","))
     workers = [int(count) for count in options.workers.split(",")]
     parts = {
-        "keys": lambda folder: keys_table(options.tool, rows, workers, folder, draw),
+        "keys": lambda folder: keys_table(options.tool, rows, workers, folder),
         "shapes": lambda folder: shapes_table(options.tool, folder),
-        "memory": lambda folder: memory_table(options.tool, workers, folder, draw),
+        "memory": lambda folder: memory_table(options.tool, workers, folder),
         "devices": lambda folder: devices_table(options.tool, workers, folder),
     }
     chosen = options.only.split(",")
     if not set(chosen) <= set(parts):
         parser.error(f"--only takes some of {','.join(parts)}")
-    with tempfile.TemporaryDirectory() as folder, numpy.errstate(over="ignore"):
+    with tempfile.TemporaryDirectory() as folder:
         for place, part in enumerate(chosen):
             print(end="\n" if place else "")
             parts[part](folder)

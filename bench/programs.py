@@ -31,15 +31,15 @@ class Program:
     server: Server | None = None
 
 
-def build_baseline(folder):
-    """Builds the plain program outside the repository: the path of what was built."""
-    source = os.path.join(FOLDER, "baseline")
+def build_rust(name, folder):
+    """Builds a program of a folder beside this file outside the repository: the path of what was built."""
+    source = os.path.join(FOLDER, name)
     if shutil.which("cargo"):
         manifest = os.path.join(source, "Cargo.toml")
         command = ["cargo", "build", "--release", "--offline", "--locked", "--quiet", "--manifest-path", manifest]
         subprocess.run([*command, "--target-dir", folder], check=True)
-        return os.path.join(folder, "release", "baseline")
-    program = os.path.join(folder, "baseline")
+        return os.path.join(folder, "release", name)
+    program = os.path.join(folder, name)
     main = os.path.join(source, "src", "main.rs")
     subprocess.run(["rustc", "--edition", "2021", *RUST, "-o", program, main], check=True)
     return program
