@@ -121,7 +121,11 @@ impl GroupSums for NullChunked {
 
     ghost column = { λ c. c };
 
-    fn group_sums(&self, _name: PlSmallStr, _groups: &GroupsView<'_>) -> PolarsResult<Option<Self>> {
+    fn group_sums(
+        &self,
+        _name: PlSmallStr,
+        _groups: &GroupsView<'_>,
+    ) -> PolarsResult<Option<Self>> {
         // The call tells the column's type.
         let _ = self.allocator();
         Ok(None)
@@ -133,7 +137,11 @@ impl GroupSums for StringChunked {
 
     ghost column = { λ c. c };
 
-    fn group_sums(&self, _name: PlSmallStr, _groups: &GroupsView<'_>) -> PolarsResult<Option<Self>> {
+    fn group_sums(
+        &self,
+        _name: PlSmallStr,
+        _groups: &GroupsView<'_>,
+    ) -> PolarsResult<Option<Self>> {
         let _ = self.allocator();
         Ok(None)
     }
@@ -144,7 +152,11 @@ impl GroupSums for BinaryChunked {
 
     ghost column = { λ c. c };
 
-    fn group_sums(&self, _name: PlSmallStr, _groups: &GroupsView<'_>) -> PolarsResult<Option<Self>> {
+    fn group_sums(
+        &self,
+        _name: PlSmallStr,
+        _groups: &GroupsView<'_>,
+    ) -> PolarsResult<Option<Self>> {
         let _ = self.allocator();
         Ok(None)
     }
@@ -155,7 +167,11 @@ impl GroupSums for BinaryOffsetChunked {
 
     ghost column = { λ c. c };
 
-    fn group_sums(&self, _name: PlSmallStr, _groups: &GroupsView<'_>) -> PolarsResult<Option<Self>> {
+    fn group_sums(
+        &self,
+        _name: PlSmallStr,
+        _groups: &GroupsView<'_>,
+    ) -> PolarsResult<Option<Self>> {
         let _ = self.allocator();
         Ok(None)
     }
@@ -166,7 +182,11 @@ impl GroupSums for CategoricalChunked {
 
     ghost column = { λ c. c };
 
-    fn group_sums(&self, _name: PlSmallStr, _groups: &GroupsView<'_>) -> PolarsResult<Option<Self>> {
+    fn group_sums(
+        &self,
+        _name: PlSmallStr,
+        _groups: &GroupsView<'_>,
+    ) -> PolarsResult<Option<Self>> {
         let _ = self.get_rev_map();
         Ok(None)
     }

@@ -45,10 +45,7 @@ pub(crate) fn keys_at(
 }
 
 // The first row of each group.
-pub(crate) fn first_rows(
-    alloc: Global,
-    groups: &GroupsView<'_>,
-) -> Result<Vec<IdxSize>, AllocError>
+pub(crate) fn first_rows(alloc: Global, groups: &GroupsView<'_>) -> Result<Vec<IdxSize>, AllocError>
     ensures { IfOk result (λ rows. rows.items ≡ firsts_in groups.now) }
 {
     let mut rows = Vec::with_capacity(alloc, groups.len())?;

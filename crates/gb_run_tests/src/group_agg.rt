@@ -105,11 +105,29 @@ fn keys_beside_no_rows(rt: HostRuntime) -> Result<(), Fail> {
     let rowless = DataFrame::new(columns)?;
     let one = numbers(alloc, "k", &[7])?;
     let two = numbers(alloc, "j", &[3, 3])?;
-    let made = group_agg(&rt, alloc, &rowless, &[&one], &[], IN_ORDER, &pool, &FreeGate);
+    let made = group_agg(
+        &rt,
+        alloc,
+        &rowless,
+        &[&one],
+        &[],
+        IN_ORDER,
+        &pool,
+        &FreeGate,
+    );
     assert!(rt; writes(alloc, made, "k:i32\n")?);
     let made = group_agg(&rt, alloc, &empty, &[&one], &[], IN_ORDER, &pool, &FreeGate);
     assert!(rt; writes(alloc, made, "k:i32\n7\n")?);
-    let made = group_agg(&rt, alloc, &empty, &[&one, &two], &[], IN_ORDER, &pool, &FreeGate);
+    let made = group_agg(
+        &rt,
+        alloc,
+        &empty,
+        &[&one, &two],
+        &[],
+        IN_ORDER,
+        &pool,
+        &FreeGate,
+    );
     assert!(rt; writes(alloc, made, "k:i32,j:i32\n7,3\n")?);
     Ok(())
 }
@@ -122,12 +140,28 @@ fn nulls_beyond_number(rt: HostRuntime) -> Result<(), Fail> {
     let most = nulls(alloc, u32::MAX, 0)?;
     let keys = [&most];
     let (answer, trace) = group_agg_traced(
-        &rt, alloc, &empty, &keys, &[], IN_ORDER, &pool, &FreeGate,
+        &rt,
+        alloc,
+        &empty,
+        &keys,
+        &[],
+        IN_ORDER,
+        &pool,
+        &FreeGate,
     )?;
     assert_eq!(rt; answer.height(), 1);
     assert_eq!(rt; trace.path, Path::Nulls);
     let more = nulls(alloc, u32::MAX, 1)?;
-    let made = group_agg(&rt, alloc, &empty, &[&more], &[], IN_ORDER, &pool, &FreeGate);
+    let made = group_agg(
+        &rt,
+        alloc,
+        &empty,
+        &[&more],
+        &[],
+        IN_ORDER,
+        &pool,
+        &FreeGate,
+    );
     assert_eq!(rt; refusal(alloc, made)?.as_str(), "too many rows: 4294967296");
     Ok(())
 }

@@ -36,7 +36,11 @@ pub(crate) fn names(alloc: Global, words: &[&str]) -> PolarsResult<Vec<PlSmallSt
 }
 
 // Whether a frame was made whose text is this.
-pub(crate) fn writes(alloc: Global, made: PolarsResult<DataFrame>, text: &str) -> PolarsResult<bool> {
+pub(crate) fn writes(
+    alloc: Global,
+    made: PolarsResult<DataFrame>,
+    text: &str,
+) -> PolarsResult<bool> {
     let frame = made?;
     Ok(text_of(alloc, &frame, "-")?.as_slice() == text.as_bytes())
 }

@@ -59,7 +59,7 @@ returns-clause-ok g c =
     let same : keys_in c.deref-2.result.now ≡ stretched_keys frame keys =
     ap keys_in c.deref-2.ensures.value ∙ c.in_ok-lent.ensures ∙ ap columns_of c.deref.ensures.value ∙ c.in_ok-keys.ensures.ok ∙ ap (stretched_keys frame) c.in_ok-lent_keys.ensures in
     let over : (made : DataFrame × Trace) → IsAnswerOver frame (keys_in c.deref-2.result.now) aggs c.args.options c.args.pool.now (map content made.0) (trace_value made.1)
-        → IsTracedAnswer frame keys aggs c.args.options c.args.pool.now (map content made.0) (trace_value made.1) =
+    → IsTracedAnswer frame keys aggs c.args.options c.args.pool.now (map content made.0) (trace_value made.1) =
     λ made is. answer_traced frame keys c.in_ok-keys.ensures.frame (keyless_some frame keys none) aggs c.args.options c.args.pool.now (map content made.0) (trace_value made.1)
     (subst (λ ks. IsAnswerOver frame ks aggs c.args.options c.args.pool.now (map content made.0) (trace_value made.1)) same is) in
     IfOk-weaker c.answer_over.result _ _ over c.answer_over.ensures.ok
