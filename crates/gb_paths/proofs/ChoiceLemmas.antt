@@ -12,6 +12,7 @@ use Rattle.gb_values.proofs.SlotOrderLemmas.{no_parts}
 use Rattle.gb_logical.proofs.CategoryLemmas.{has_texts}
 use Rattle.gb_cols.specs.Codes.{IsCodeBelow}
 use Rattle.gb_runs.specs.Codes.{AreCodes}
+use Rattle.gb_paths.specs.Keys.{HasRuns}
 use Rattle.gb_paths.specs.Tuples.{IsPerfect, column_path}
 
 -- ---- paths by hashes
@@ -91,6 +92,14 @@ nulls_told column multithreaded pool e = nulls_by column multithreaded (workers_
 -- a column that goes another way than as one run of nulls has values
 pub valued_told : (column : ColumnValue) (multithreaded : Bool) (pool : Pool) (path : Path) → column_path column multithreaded pool ≡ path → (Nulls ≡ path → ⊥) → kind_of column.dtype ≢ NoValues
 valued_told column multithreaded pool path e other none = other (sym (ap (λ kind. path_by_kind kind column multithreaded (workers_of pool) (threshold_of pool)) none) ∙ e)
+
+-- a column that goes by runs has values, and they hold no others
+pub runs_told : (column : ColumnValue) (multithreaded : Bool) (pool : Pool) → column_path column multithreaded pool ≡ Sorted → HasRuns column.dtype
+runs_told column multithreaded pool e = record {
+  valued = valued_told column multithreaded pool Sorted e (λ h. cc h);
+  flat = λ parts. hashed_apart Sorted refl true (length column.slots) multithreaded (workers_of pool) (threshold_of pool)
+      (sym (ap (λ kind. path_by_kind kind column multithreaded (workers_of pool) (threshold_of pool)) parts) ∙ e);
+}
 
 -- ---- codes that are all held
 

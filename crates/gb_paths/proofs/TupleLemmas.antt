@@ -31,7 +31,6 @@ sorted_tuples column multithreaded pool = sorted_path (column_path column multit
 -- rows that stand for others have their groups by their keys, however many codes there are
 stood_groups : (path : KeyPath) (own rows : Rows) → StandsFor own rows → (codes n : ℕ) (sorted : Bool) →
     path_groups (key_path_value path) rows 0 n sorted ≡ path_groups (key_path_value path) own codes n sorted
-stood_groups keyed.Runs own rows stand codes n sorted = sym (path_groups_alike own rows stand codes n Sorted sorted tt)
 stood_groups keyed.Table own rows stand codes n sorted = sym (path_groups_alike own rows stand codes n Table sorted tt)
 stood_groups keyed.Threaded own rows stand codes n sorted = sym (path_groups_alike own rows stand codes n Threaded sorted tt)
 
@@ -40,16 +39,9 @@ pub keys_grouped : (column : ColumnValue) (keys : Keys) (path : KeyPath) (sorted
 keys_grouped column keys path sorted pool stand =
     stood_groups path (key_rows (seed_of pool) column) (rows_of_keys (seed_of pool) keys) (stand.rows (seed_of pool)) (code_count column.dtype) (partitions_of pool) sorted
 
--- and they stand together where the slots do
-pub keys_together : (column : ColumnValue) (keys : Keys) (seed : ℕ) → StandFor column keys → AreTogether column.slots → StandTogether (rows_of_keys seed keys)
-keys_together column keys seed stand together =
-    let rows = stand.rows seed in record {
-      between =
-          λ i j k low high inside same.
-          let within : k < length column.slots = rw (← rows.many) inside in
-          let near = together.between i j k low high within (rows.agree i k (omega (arith, low, high, within)) within ∙ same) in
-          sym (rows.agree i j (omega (arith, low, high, within)) (omega (arith, high, within))) ∙ near;
-    }
+-- rows of slots that stand together stand together
+pub slots_together : (slots : List Slot) → AreTogether slots → StandTogether (rows_in slots)
+slots_together slots together = record { between = together.between }
 
 -- ---- codes
 

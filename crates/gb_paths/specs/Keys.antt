@@ -50,6 +50,11 @@ kind_value kind.Codes = path.Codes
 kind_value kind.ByteLists = path.ByteLists
 kind_value kind.Parts = path.Parts
 
+-- a type by the order of whose values rows may go by runs: it has values, and they hold no others
+pub record HasRuns (t : ColumnType) : Type 0 where
+  pub valued : kind_of t ≢ NoValues
+  pub flat : kind_of t ≢ Parts
+
 -- a column that is none of categories
 abbrev pub HasNoCodes : ColumnValue → Type 0
 HasNoCodes column = kind_of column.dtype ≢ path.Codes

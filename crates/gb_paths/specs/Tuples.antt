@@ -33,7 +33,6 @@ path_value way.Table = path.Table
 path_value way.Threaded = path.Threaded
 
 abbrev pub key_path_value : KeyPath → path.Path
-key_path_value keyed.Runs = path.Sorted
 key_path_value keyed.Table = path.Table
 key_path_value keyed.Threaded = path.Threaded
 

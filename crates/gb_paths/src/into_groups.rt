@@ -12,14 +12,13 @@ ghost use Rattle.gb_base.specs.Sorted.{flag_of};
 ghost use Rattle.gb_base.specs.declared.pool.Pool.{Pool};
 ghost use Rattle.gb_groups.specs.GroupsType.{groups_of};
 ghost use Rattle.gb_series.specs.Series.{value_of};
-ghost use Rattle.gb_runs.specs.Runs.{AreTogether, StandTogether};
 ghost use Rattle.gb_paths.specs.Keys.{byte_rows, null_rows, rows_of_keys};
 ghost use Rattle.gb_paths.specs.Tuples.{IsPerfect, key_path_value, ordered, tuples_of, tuples_on};
-ghost use Rattle.gb_paths.specs.declared.path.KeyPath.TheVariants.{Runs};
 
 use crate::group_by::group_uncounted;
 use crate::keys::{KeyColumn, Keys, byte_chunks};
 use crate::path::{KeyOrder, KeyPath, Path, order_of, path_of};
+use crate::run_groups::group_runs;
 use crate::threaded::group_by_threaded_iter;
 use gb_base::device::Gate;
 use gb_base::error::PolarsResult;
@@ -37,7 +36,6 @@ use gb_hash::key_rows::KeyRows;
 use gb_hash::list_rows::{ChunkRows, ListRows};
 use gb_hash::slice_rows::SliceRows;
 use gb_runs::codes::group_codes;
-use gb_runs::runs::group_runs;
 use gb_series::series::Series;
 use std::alloc::Global;
 use std::thread::Threads;
@@ -54,6 +52,7 @@ pub trait IntoGroupsType: SeriesTrait {
         pool: &Pool,
     ) -> PolarsResult<GroupsType>
         requires row_type { IsSync T.row }
+        requires column_type { IsSync Self.row }
         requires few { HasRowNumbers (length (Self.value self.now).slots) }
         ensures ok { IfOk result (λ g.
             groups_of g ≡ tuples_of (Self.value self.now) multithreaded sorted pool.now) }
@@ -62,7 +61,7 @@ pub trait IntoGroupsType: SeriesTrait {
         ensures err { IfErr result IsNoMemory };
 }
 
-impl<C: KeyColumn> IntoGroupsType for C {
+impl<C: KeyColumn + Sync> IntoGroupsType for C {
     fn group_tuples<T: Threads + Sync>(
         &self,
         rt: &T,
@@ -103,7 +102,7 @@ pub fn group_tuples_gated<T: Threads + Sync, G: Gate + Sync>(
 
 /// The groups of a column's rows by the path of its type and length, where they stand in an order; each
 /// partition enters the gate with its number, and leaves it.
-pub fn group_column<T: Threads + Sync, C: KeyColumn, G: Gate + Sync>(
+pub fn group_column<T: Threads + Sync, C: KeyColumn + Sync, G: Gate + Sync>(
     rt: &T,
     column: &C,
     order: KeyOrder,
@@ -126,7 +125,7 @@ pub fn group_column<T: Threads + Sync, C: KeyColumn, G: Gate + Sync>(
 }
 
 // The same, whatever else holds of groups.
-fn group_on_path<T: Threads + Sync, C: KeyColumn, G: Gate + Sync>(
+fn group_on_path<T: Threads + Sync, C: KeyColumn + Sync, G: Gate + Sync>(
     rt: &T,
     column: &C,
     order: KeyOrder,
@@ -144,7 +143,7 @@ fn group_on_path<T: Threads + Sync, C: KeyColumn, G: Gate + Sync>(
 {
     match path_of(column, order, multithreaded, pool) {
         Path::Nulls => one_run(column.allocator(), column.len()),
-        Path::Sorted => group_by_path(rt, column, KeyPath::Runs, sorted, pool, gate),
+        Path::Sorted => group_runs(rt, column, pool),
         Path::Perfect => group_perfect(column, sorted),
         Path::Table => group_by_path(rt, column, KeyPath::Table, sorted, pool, gate),
         Path::Threaded => group_by_path(rt, column, KeyPath::Threaded, sorted, pool, gate),
@@ -162,7 +161,6 @@ fn group_by_path<T: Threads + Sync, C: KeyColumn, G: Gate + Sync>(
 ) -> PolarsResult<GroupsType>
     requires few { HasRowNumbers (length (C.value column.now).slots) }
     requires keyed { kind_of (C.value column.now).dtype ≢ NoValues }
-    requires together { path ≡ Runs → AreTogether (C.value column.now).slots }
     ensures ok { IfOk result (λ g. groups_of g
         ≡ tuples_on (key_path_value path) (C.value column.now) sorted pool.now) }
     ensures err { IfErr result IsNoMemory }
@@ -228,7 +226,6 @@ pub(crate) fn group_keys<T: Threads + Sync, G: Gate + Sync>(
     gate: &G,
 ) -> PolarsResult<GroupsType>
     requires few { HasRowNumbers (rows_of_keys (seed_of pool.now) keys.now).count }
-    requires together { path ≡ Runs → StandTogether (rows_of_keys (seed_of pool.now) keys.now) }
     ensures ok { let rows = rows_of_keys (seed_of pool.now) keys.now in IfOk result (λ g.
         groups_of g ≡ path_groups (key_path_value path) rows 0 (partitions_of pool.now) sorted) }
     ensures err { IfErr result IsNoMemory }
@@ -278,7 +275,6 @@ fn group_bytes<T: Threads + Sync, G: Gate + Sync>(
     gate: &G,
 ) -> PolarsResult<GroupsType>
     requires few { HasRowNumbers (length bytes.now.slots) }
-    requires together { path ≡ Runs → StandTogether (byte_rows (seed_of pool.now) bytes.now.slots) }
     ensures ok { let rows = byte_rows (seed_of pool.now) bytes.now.slots in IfOk result (λ g.
         groups_of g ≡ path_groups (key_path_value path) rows 0 (partitions_of pool.now) sorted) }
     ensures err { IfErr result IsNoMemory }
@@ -308,13 +304,11 @@ fn group_rows<T: Threads + Sync, R: KeyRows, G: Gate + Sync>(
     gate: &G,
 ) -> PolarsResult<GroupsType>
     requires few { HasRowNumbers (R.rows rows.now).count }
-    requires together { path ≡ Runs → StandTogether (R.rows rows.now) }
     ensures ok { IfOk result (λ g. groups_of g
         ≡ path_groups (key_path_value path) (R.rows rows.now) 0 (partitions_of pool.now) sorted) }
     ensures err { IfErr result IsNoMemory }
 {
     match path {
-        KeyPath::Runs => group_runs(rt, alloc, rows, pool),
         KeyPath::Table => group_uncounted(alloc, rows, sorted),
         KeyPath::Threaded => {
             group_by_threaded_iter(rt, alloc, rows, pool.partitions(), sorted, pool, gate)

@@ -1,14 +1,17 @@
 //! The keys of a column's rows, in one of a few forms, and what they are to a grouping.
 
-ghost use Rattle.std.specs.Prelude.{◌≡◌, ◌≢◌, map, IfOk, IfErr, IfSome, MatchOption};
+ghost use Rattle.std.specs.Prelude.{◌≡◌, ◌≢◌, ◌+◌, map, IfOk, IfErr, IfSome, MatchOption};
 ghost use Rattle.gb_defs.specs.Path.{Codes, Parts, kind_of};
 ghost use Rattle.gb_defs.specs.Slot as slot;
 ghost use Rattle.gb_base.specs.PlSmallStr.{IsNoMemory};
 ghost use Rattle.gb_series.specs.Series.{value_of};
-ghost use Rattle.gb_paths.specs.Keys.{AreCodesOf, HasNoCodes, HasNoValues, StandFor, kind_value};
+ghost use Rattle.gb_runs.specs.Codes.{rows_in};
+ghost use Rattle.gb_runs.specs.Runs.{HasRowsTo, starts_in};
+ghost use Rattle.gb_paths.specs.Keys.{AreCodesOf, HasNoCodes, HasNoValues, HasRuns, StandFor, kind_value};
 
 use crate::plain_words::plain_words;
 use gb_base::error::PolarsResult;
+use gb_base::nullable_idx::IdxSize;
 use gb_cols::binary::BinaryOffsetChunked;
 use gb_cols::chunked::ChunkedArray;
 use gb_cols::null::NullChunked;
@@ -22,6 +25,7 @@ use gb_logical::categorical::CategoricalChunked;
 use gb_logical::logical::{Logical, LogicalKind};
 use gb_numbers::numeric::{Native, PolarsNumericType};
 use gb_rows::unordered::encode_rows_unordered;
+use gb_runs::runs;
 use gb_series::series::Series;
 use gb_values::binary::{Binary, BinaryOffset};
 use gb_values::boolean::FlagValues;
@@ -29,6 +33,7 @@ use gb_values::bytes::{ByteKind, ByteValues};
 use gb_values::nullable::Values;
 use gb_values::primitive::NumberValues;
 use gb_values::utf8::{Text, TextValues};
+use std::alloc::AllocError;
 use std::slice;
 
 /// What the values of a column are to a grouping.
@@ -184,6 +189,14 @@ pub trait KeyColumn: UndoAppend {
         ensures ok { let column = Self.value self.now in
             IfOk result (λ keys. MatchOption keys (HasNoValues column) (StandFor column)) }
         ensures err { IfErr result IsNoMemory };
+
+    /// The first rows of runs among those of a range, its first row and how many they are. Values are
+    /// compared as they lie.
+    fn run_starts(&self, range: (usize, usize)) -> Result<Vec<IdxSize>, AllocError>
+        requires runs { HasRuns (Self.value self.now).dtype }
+        requires rows { HasRowsTo (Self.value self.now).slots (range.0 + range.1) }
+        ensures { let slots = (Self.value self.now).slots in
+            IfOk result (λ starts. starts.items ≡ starts_in (rows_in slots) range) };
 }
 
 impl<V: KeyValues> KeyColumn for ChunkedArray<V> {
@@ -202,6 +215,10 @@ impl<V: KeyValues> KeyColumn for ChunkedArray<V> {
 
     fn keys(&self) -> PolarsResult<Option<Keys<'_>>> {
         Ok(Some(V::keys_of(self)?))
+    }
+
+    fn run_starts(&self, range: (usize, usize)) -> Result<Vec<IdxSize>, AllocError> {
+        runs::run_starts(self, range)
     }
 }
 
@@ -222,6 +239,10 @@ impl<K: LogicalKind> KeyColumn for Logical<K> {
         let _ = self.kind();
         self.physical().keys()
     }
+
+    fn run_starts(&self, range: (usize, usize)) -> Result<Vec<IdxSize>, AllocError> {
+        runs::run_starts(self.physical(), range)
+    }
 }
 
 impl KeyColumn for NullChunked {
@@ -239,6 +260,11 @@ impl KeyColumn for NullChunked {
     fn keys(&self) -> PolarsResult<Option<Keys<'_>>> {
         let _ = self.allocator();
         Ok(None)
+    }
+
+    fn run_starts(&self, _range: (usize, usize)) -> Result<Vec<IdxSize>, AllocError> {
+        let _ = self.allocator();
+        unreachable!()
     }
 }
 
@@ -262,6 +288,10 @@ impl KeyColumn for CategoricalChunked {
             None => Ok(Some(Keys::Codes(physical.words()?))),
         }
     }
+
+    fn run_starts(&self, range: (usize, usize)) -> Result<Vec<IdxSize>, AllocError> {
+        runs::run_starts(self.physical(), range)
+    }
 }
 
 impl KeyColumn for FlatSeries {
@@ -275,6 +305,10 @@ impl KeyColumn for FlatSeries {
 
     fn keys(&self) -> PolarsResult<Option<Keys<'_>>> {
         of_column!(self, column => column.keys())
+    }
+
+    fn run_starts(&self, range: (usize, usize)) -> Result<Vec<IdxSize>, AllocError> {
+        of_column!(self, column => column.run_starts(range))
     }
 }
 
@@ -304,6 +338,15 @@ impl KeyColumn for Series {
         match self {
             Series::Flat(column) => column.keys(),
             _ => Ok(Some(nested_keys(self)?)),
+        }
+    }
+
+    #[tactic(auto, using(crate::proofs::KeyFormLemmas::parts_by_variant))]
+    fn run_starts(&self, range: (usize, usize)) -> Result<Vec<IdxSize>, AllocError> {
+        self.tell_variant();
+        match self {
+            Series::Flat(column) => column.run_starts(range),
+            _ => unreachable!(),
         }
     }
 }

@@ -14,5 +14,6 @@ mod plain_words;
 mod row_groups;
 mod row_hashes;
 mod row_partitions;
+mod run_groups;
 pub mod threaded;
 pub mod trace;

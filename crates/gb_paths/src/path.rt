@@ -54,8 +54,6 @@ impl fmt::Display for Path {
 /// Which way rows are grouped by the key of each.
 #[derive(Clone, Copy, Debug, PartialEq, Eq)]
 pub enum KeyPath {
-    /// By runs of one key.
-    Runs,
     /// By one table.
     Table,
     /// By a table for each partition.
@@ -70,7 +68,6 @@ impl From<KeyPath> for Path {
 
     fn from(keyed: KeyPath) -> Path {
         match keyed {
-            KeyPath::Runs => Path::Sorted,
             KeyPath::Table => Path::Table,
             KeyPath::Threaded => Path::Threaded,
         }

@@ -341,8 +341,3 @@ pub starts_more : (rows : Rows) (first place : ℕ) (before after : List ℕ) (b
 starts_more rows first place before after begins so_far more tells =
     more ∙ ap (λ l. l ++ cond begins ((first + place) ∷ []) []) so_far ∙ ap (λ b. starts_in rows (first, place) ++ cond b ((first + place) ∷ []) []) tells
     ∙ sym (ap (filter (begins_run rows.slot)) (range_more first place) ∙ filter-append (begins_run rows.slot) (range_with_len first place) ((first + place) ∷ []))
-
-pub before_more : (slot : ℕ → Slot) (first place : ℕ) → Some (slot (first + place)) ≡ slot_before slot (first + (place + 1))
-before_more slot first place =
-    let next : first + (place + 1) ≡ suc (first + place) = omega arith in
-    rw next refl

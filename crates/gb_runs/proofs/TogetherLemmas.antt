@@ -1,12 +1,14 @@
 -- Slots that are in order stand together where they are the same.
-use Rattle.std.proofs.Common.{◌≡◌, ◌∙◌, ℕ, ◌<◌, ◌≤◌, ℤ, Bool, true, false, inl, inr, List, length, All, refl, sym, ap, arith}
+use Rattle.std.proofs.Common.{◌≡◌, ◌∙◌, ℕ, ◌<◌, ◌≤◌, ℤ, Bool, true, false, not, inl, inr, List, length, All, refl, sym, ap, arith}
+use Rattle.std.specs.Bool.{IsTrue}
 use Rattle.std.specs.Cmp.Lexicographic.{slice_cmp}
 use Rattle.std.specs.FinMap.{int_cmp-IsAntisymmetric, nat_cmp-IsAntisymmetric, slice_cmp-IsAntisymmetric}
 use Rattle.std.specs.declared.cmp.Ordering.{Ordering}
 use Rattle.std.specs.declared.cmp.Ordering.TheVariants.{Less, Equal, Greater}
 use Rattle.std.specs.Ordering.{int_cmp, is_gt, is_lt, nat_cmp}
 use Rattle.std.proofs.lemmas.Bool.{cases_Bool, true≢false}
-use Rattle.gb_defs.specs.Column.{Ascending, Descending, HasNullsAtOneEnd, IsAscending, IsDescending, IsFlagTrue, NotSorted, SortedFlag}
+use Rattle.std.proofs.lemmas.Cmp.{int_cmp_total, nat_list_cmp_total, tied_itself}
+use Rattle.gb_defs.specs.Column.{Ascending, Descending, HasNullsAtOneEnd, IsAscending, IsDescending, IsFlagTrue, NotSorted, SortedFlag, may_be_sorted}
 use Rattle.gb_defs.specs.ColumnType.{ColumnType, FlatType, Flat, ListOf, ArrayOf, StructOf, Fits, FitsBytes, FitsNumber, Null, Boolean, Unsigned, Signed, Decimal, Date, Time, Datetime, Duration, String, Binary, BinaryOffset, Categorical, Enum}
 use Rattle.gb_defs.specs.Order.{ByCode, below, bytes_below}
 use Rattle.gb_defs.specs.Path.{is_flagged}
@@ -58,6 +60,44 @@ module _ (t : FlatType) where
   same_slots a Nil fa fb va vb low high = cc
   same_slots (Items a) b fa fb va vb low high = absurd (no_parts t 0 a fa)
   same_slots a (Items b) fa fb va vb low high = absurd (no_parts t 0 b fb)
+
+  none_below_itself : (a : Slot) → Fits (Flat t) a → below ByCode (Flat t) a a ≡ false
+  none_below_itself Nil fits = refl
+  none_below_itself (Num a) fits = number_below (Flat t) a a ∙ sym (int_cmp_lt a a) ∙ ap is_lt (tied_itself int_cmp_total a)
+  none_below_itself (Bytes a) fits = sym (bytes_cmp_lt a a) ∙ ap is_lt (tied_itself nat_list_cmp_total a)
+  none_below_itself (Items a) fits = absurd (no_parts t 0 a fits)
+
+  flat_below : (a b : Slot) → Fits (Flat t) a → below ByCode (Flat t) a b ≡ true → true ≡ not (slot_eq a b)
+  flat_below a b fa low = elim (cases_Bool (slot_eq a b)) [
+    | inl e ↦
+        let same : a ≡ b = (Decides-slot_eq a b).0 e in
+        absurd (true≢false (sym low ∙ ap (λ s. below ByCode (Flat t) a s) (sym same) ∙ none_below_itself a fa))
+    | inr e ↦ rw e refl
+  ]
+
+  flat_else : (a b : Slot) → Fits (Flat t) a → Fits (Flat t) b → is_nil a ≡ false → is_nil b ≡ false → below ByCode (Flat t) a b ≡ false → below ByCode (Flat t) b a ≡ not (slot_eq a b)
+  flat_else a b fa fb va vb low = elim (cases_Bool (slot_eq a b)) [
+    | inl e ↦
+        let same : a ≡ b = (Decides-slot_eq a b).0 e in
+        ap (λ s. below ByCode (Flat t) s a) (sym same) ∙ none_below_itself a fa ∙ sym (ap not e)
+    | inr e ↦ elim (cases_Bool (below ByCode (Flat t) b a)) [
+      | inl up ↦ up ∙ sym (ap not e)
+      | inr none ↦ absurd (true≢false (sym ((Decides-slot_eq a b).1 (same_slots a b fa fb va vb low none)) ∙ e))
+    ]
+  ]
+
+-- valid slots of which one is below the other are not the same
+pub below_differ : (t : ColumnType) (a b : Slot) → IsTrue (may_be_sorted t) → Fits t a → below ByCode t a b ≡ true → true ≡ not (slot_eq a b)
+below_differ (Flat t) a b may fa low = flat_below t a b fa low
+below_differ (ListOf t) a b may fa low = cc may
+below_differ (ArrayOf t width) a b may fa low = cc may
+below_differ (StructOf fs) a b may fa low = cc may
+
+pub else_differ : (t : ColumnType) (a b : Slot) → IsTrue (may_be_sorted t) → Fits t a → Fits t b → is_nil a ≡ false → is_nil b ≡ false → below ByCode t a b ≡ false → below ByCode t b a ≡ not (slot_eq a b)
+else_differ (Flat t) a b may fa fb va vb low = flat_else t a b fa fb va vb low
+else_differ (ListOf t) a b may fa fb va vb low = cc may
+else_differ (ArrayOf t width) a b may fa fb va vb low = cc may
+else_differ (StructOf fs) a b may fa fb va vb low = cc may
 
 -- ---- slots in order
 

@@ -36,10 +36,10 @@ pub record StandTogether (rows : Rows) : Type 0 where
 pub record AreTogether (slots : List Slot) : Type 0 where
   pub between : (i j k : ℕ) → i ≤ j → j ≤ k → k < length slots → slot_eq (slot_at slots i) (slot_at slots k) ≡ true → slot_eq (slot_at slots i) (slot_at slots j) ≡ true
 
--- so many rows from the first on are among the rows, which have numbers
-pub record HasRowsTo (rows : Rows) (end : ℕ) : Type 0 where
-  pub within : end ≤ rows.count
-  pub few : rows.count < 2 ^ 32
+-- so many rows from the first on have slots, and all have numbers
+pub record HasRowsTo (slots : List Slot) (end : ℕ) : Type 0 where
+  pub within : end ≤ length slots
+  pub few : length slots < 2 ^ 32
 
 -- first rows of runs, up to an end
 pub record AreStarts (end : ℕ) (starts : List ℕ) : Type 0 where

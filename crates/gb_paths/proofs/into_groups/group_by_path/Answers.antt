@@ -2,7 +2,7 @@ use Rattle.std.proofs.Common.{◌∙◌}
 use Rattle.std.proofs.lemmas.Result.{IfOk-weaker}
 use Rattle.gb_base.specs.Pool.{seed_of}
 use Rattle.gb_paths.specs.Keys.{StandFor}
-use Rattle.gb_paths.proofs.TupleLemmas.{keys_grouped, keys_together}
+use Rattle.gb_paths.proofs.TupleLemmas.{keys_grouped}
 use Rattle.gb_paths.proofs.into_groups.group_by_path.Goals as goal
 
 pub returns-clause-ok : goal.returns-clause-ok
@@ -16,9 +16,3 @@ group_keys-requires-clause-few g c κs within =
     let column = g.C.SeriesTrait.value c.args.column.now in
     let stand : StandFor column c.in-Some.keys = rw c.in-Some.is at c.in_ok-keys.ensures.ok in
     rw (stand.rows (seed_of c.args.pool.now)).many c.requires.few
-
-pub group_keys-requires-clause-together : goal.group_keys-requires-clause-together
-group_keys-requires-clause-together g c κs within =
-    let column = g.C.SeriesTrait.value c.args.column.now in
-    let stand : StandFor column c.in-Some.keys = rw c.in-Some.is at c.in_ok-keys.ensures.ok in
-    λ runs. keys_together column c.in-Some.keys (seed_of c.args.pool.now) stand (c.requires.together runs)
