@@ -4,13 +4,18 @@ use Rattle.std.specs.List.{list_any, range_with_len, AllByRecursion}
 use Rattle.std.proofs.lemmas.Bool.{cases_Bool, cases_eq, lt-ltb, true≢false}
 use Rattle.std.proofs.lemmas.List.Elements.{All-filter, All-from_recursion, All-map, filter_passes, recursion_from_All}
 use Rattle.gb_defs.specs.Classes.{class, firsts, groups, is_first, rows_below}
+use Rattle.gb_defs.specs.Column.{ColumnValue}
 use Rattle.gb_defs.specs.Groups.{FitsRows, IsHead, IsWellFormed}
 use Rattle.gb_defs.specs.Partitions.{by_partition, in_partition, partition_groups}
-use Rattle.gb_defs.specs.Path.{Path, Nulls, Sorted, Perfect, Table, Threaded, path_groups}
+use Rattle.gb_defs.specs.Path.{Path, Nulls, Sorted, Perfect, Table, Threaded, code_count, path_groups}
 use Rattle.gb_defs.specs.Rows.{Rows, same_slot_at}
 use Rattle.gb_defs.specs.Slot.{Num, is_nil, slot_eq}
 use Rattle.gb_defs.proofs.ClassesLemmas.{all_append, all_filter, all_filters, rows_below_all}
 use Rattle.gb_defs.proofs.SlotLemmas.{slot_eq_equiv}
+use Rattle.gb_base.specs.Pool.{partitions_of, seed_of}
+use Rattle.gb_base.specs.declared.pool.Pool.{Pool}
+use Rattle.gb_paths.specs.Keys.{key_rows}
+use Rattle.gb_paths.specs.Tuples.{column_path, tuples_of}
 use Rattle.gb_paths.proofs.MemberLemmas.{all_members, some_members}
 
 not_true : (b : Bool) → not b ≡ true → b ≡ false
@@ -89,3 +94,8 @@ path_formed path rows codes n sorted =
       | Table ↦ by_first
       | Threaded ↦ elim sorted as (λ s. IsWellFormed rows.count (path_groups Threaded rows codes n s).pairs) [ true ↦ by_first | false ↦ partitions_formed agree same rows.count rows.hash n ]
     ]
+
+-- so are those of a column's rows, on its path
+pub tuples_formed : (column : ColumnValue) (multithreaded sorted : Bool) (pool : Pool) → IsWellFormed (length column.slots) (tuples_of column multithreaded sorted pool).pairs
+tuples_formed column multithreaded sorted pool =
+    path_formed (column_path column multithreaded pool) (key_rows (seed_of pool) column) (code_count column.dtype) (partitions_of pool) sorted

@@ -6,7 +6,9 @@ pub mod JoinLemmas
 pub mod KeyFormLemmas
 pub mod KeyLemmas
 pub mod MemberLemmas
+pub mod NumberingLemmas
 pub mod OrderLemmas
+pub mod PartLemmas
 pub mod PartitionLemmas
 pub mod PlainWordLemmas
 pub mod RowBytesLemmas

@@ -6,7 +6,8 @@ use Rattle.std.proofs.lemmas.List.{get_or-map, length-map, map-append, take_all,
 use Rattle.std.proofs.lemmas.List.Elements.{All-filter, All-map, All-more, All-from_recursion, recursion_from_All}
 use Rattle.std.proofs.lemmas.Bool.{cases_Bool}
 use Rattle.std.proofs.lemmas.Simd.{map-map}
-use Rattle.std.proofs.lemmas.List.FromFn.{fill_by_all, get_or-range_with_len, length-range_with_len}
+use Rattle.std.proofs.lemmas.Slice.Zip.{length-zip}
+use Rattle.std.proofs.lemmas.List.FromFn.{fill_by_all, get_or-range_with_len, length-map-range_with_len, length-range_with_len}
 use Rattle.std.proofs.lemmas.List.Kept.{AllPairs-from_increasing, IsStrictlyIncreasing-filter}
 use Rattle.gb_defs.specs.Classes.{rows_below}
 use Rattle.gb_defs.specs.Groups.{AreMembers}
@@ -14,6 +15,7 @@ use Rattle.gb_defs.specs.Hash.{partition_of}
 use Rattle.gb_defs.specs.Partitions.{in_partition}
 use Rattle.gb_defs.proofs.ClassesLemmas.{rows_below_all}
 use Rattle.gb_groups.specs.Numbers.{count_of, counts_by, lists_by, rows_of}
+use Rattle.gb_paths.specs.Numbers.{pairs_by}
 use Rattle.gb_paths.specs.Partitions.{AreWithin, partitions_by, rows_by_partition}
 use Rattle.smallvec.specs.SmallVec.{SmallVec}
 use Rattle.gb_groups.specs.Groups.{lists_of}
@@ -155,3 +157,15 @@ rows_within n count hash hashes hashed within = recursion_from_All (λ i. partit
     let place : k < length hashes = omega (arith, lt, ap length hashed, length-map (rows_below count) hash) in
     let at : get_or hashes k 0 ≡ hash (get_or (rows_below count) k d) = ap (λ hs. get_or hs k 0) hashed ∙ get_or-map hash (rows_below count) k d 0 lt in
     rw (← at) (within k 0 place))
+
+-- there is a list for each number
+pub as_many : (rows numbers : List ℕ) (groups : ℕ) (lists : List (SmallVec ℕ)) → lists_of lists ≡ lists_by rows numbers groups → groups ≡ length lists
+as_many rows numbers groups lists made =
+    sym (sym (length-map lists (λ (list : SmallVec ℕ). list.items)) ∙ ap length made ∙ length-map-range_with_len (rows_of rows numbers) 0 groups)
+
+-- and a pair for each first row
+pub pairs_many : (rows numbers first : List ℕ) → length (pairs_by rows numbers first) ≡ length first
+pairs_many rows numbers first =
+    let long = length-zip first (lists_by rows numbers (length first)) in
+    let lists = length-map-range_with_len (rows_of rows numbers) 0 (length first) in
+    omega (arith, long, lists)

@@ -2,9 +2,11 @@
 use Rattle.std.proofs.Common.{◌≡◌, ℕ, ◌<◌, pos, Bool, true, false, List, [], ◌∷◌, filter, length, refl, sym, ◌∙◌, ap, arith}
 use Rattle.std.specs.List.{flat_map, range_with_len}
 use Rattle.gb_defs.specs.Column.{ColumnValue}
+use Rattle.gb_defs.specs.ColumnType.{ColumnType, ArrayOf, Flat, ListOf, StructOf}
 use Rattle.gb_defs.specs.Classes.{firsts, groups, rows_below, same_slot}
 use Rattle.gb_defs.specs.Groups.{idx_groups}
-use Rattle.gb_defs.specs.Slot.{Slot, Num, slot_eq}
+use Rattle.gb_defs.specs.Hash.{hash_of, hash_width, seed_mix}
+use Rattle.gb_defs.specs.Slot.{Slot, Num, slot_at, slot_eq}
 use Rattle.gb_defs.specs.Rows.{Rows, StandsFor, same_slot_at}
 use Rattle.gb_defs.specs.Path.{Path, Nulls, Sorted, Perfect, Table, Threaded, code_count, path_groups, perfect_pairs}
 use Rattle.gb_defs.proofs.PathLemmas.{path_groups_alike}
@@ -12,9 +14,10 @@ use Rattle.gb_base.specs.Pool.{partitions_of, seed_of}
 use Rattle.gb_base.specs.declared.pool.Pool.{Pool}
 use Rattle.gb_runs.specs.Codes.{rows_in}
 use Rattle.gb_runs.specs.Runs.{AreTogether, StandTogether}
-use Rattle.gb_paths.specs.Keys.{AreCodesOf, StandFor, key_rows, rows_of_keys}
-use Rattle.gb_paths.specs.Tuples.{column_path, key_path_value, tuples_of, tuples_on}
+use Rattle.gb_paths.specs.Keys.{AreCodesOf, StandFor, hashed_slot, key_rows, rows_of_keys}
+use Rattle.gb_paths.specs.Tuples.{column_path, key_path_value, ordered, tuples_of, tuples_on}
 use Rattle.gb_paths.specs.declared.keys.Keys.{Keys}
+use Rattle.gb_paths.specs.declared.path.KeyOrder.{KeyOrder}
 use Rattle.gb_paths.specs.declared.path.KeyPath.{KeyPath}
 use Rattle.gb_paths.specs.declared.path.KeyPath.TheVariants as keyed
 
@@ -65,3 +68,19 @@ pub code_tuples : (column codes : ColumnValue) (count : ℕ) (sorted : Bool) (po
     path_groups Perfect (rows_in codes.slots) count 0 sorted ≡ tuples_on Perfect column sorted pool
 code_tuples column codes count sorted pool are =
     ap (λ slots. path_groups Perfect (rows_in slots) count 0 sorted) are.slots ∙ ap (λ n. path_groups Perfect (rows_in column.slots) n 0 sorted) (sym are.texts)
+
+-- ---- what is known of a column's order
+
+hashed_alike : (t : ColumnType) (order : KeyOrder) (column : ColumnValue) (row : ℕ) → hashed_slot t (ordered order column) row ≡ hashed_slot t column row
+hashed_alike (Flat t) order column row = refl
+hashed_alike (ListOf t) order column row = refl
+hashed_alike (ArrayOf t n) order column row = refl
+hashed_alike (StructOf parts) order column row = refl
+
+-- it changes no key
+pub ordered_rows : (seed : ℕ) (order : KeyOrder) (column : ColumnValue) → key_rows seed column ≡ key_rows seed (ordered order column)
+ordered_rows seed order column k = record {
+  count = length column.slots;
+  slot = slot_at column.slots;
+  hash = λ row. hash_of (hash_width column.dtype) seed seed_mix (sym (hashed_alike column.dtype order column row) k);
+}

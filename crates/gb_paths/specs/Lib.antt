@@ -1,5 +1,7 @@
+pub mod Classes
 pub mod Hashes
 pub mod Keys
+pub mod Numbering
 pub mod Numbers
 pub mod Partitions
 pub mod PlainWords

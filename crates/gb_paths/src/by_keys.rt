@@ -14,11 +14,13 @@ ghost use Rattle.gb_series.specs.Series.{value_of};
 ghost use Rattle.gb_rows.specs.Lent.{keys_in};
 ghost use Rattle.gb_rows.specs.Rows.{AreOfOneLength};
 ghost use Rattle.gb_rows.specs.Told.{AreToldByRows};
+ghost use Rattle.gb_paths.specs.Classes.{grouping_of};
 ghost use Rattle.gb_paths.specs.Tuples.{AreClasses, AreFound, IsNullUnlessValued, all_path, path_value, slots_of, tuples_by, tuples_of_bytes};
 
-use crate::into_groups::{group_column, group_keys, group_tuples_gated, one_run};
+use crate::classes::{Classes, classes_by_path, classes_of_keys};
+use crate::into_groups::{group_series, group_tuples_gated, one_run};
 use crate::keys::Keys;
-use crate::path::{KeyOrder, Path, choose_path, path_of};
+use crate::path::{KeyOrder, KeyPath, Path, choose_path, path_of};
 use gb_base::device::Gate;
 use gb_base::error::PolarsResult;
 use gb_base::pool::Pool;
@@ -59,7 +61,8 @@ pub fn group_by_keys<T: Threads + Sync, G: Gate + Sync>(
     if keys.len() == 1 {
         return group_tuples_gated(rt, keys[0], multithreaded, sorted, pool, gate);
     }
-    let (groups, _) = group_several(rt, keys, multithreaded, sorted, pool, gate)?;
+    let (classes, _) = classes_several(rt, keys, multithreaded, sorted, false, pool, gate)?;
+    let groups = classes.into_groups(keys[0].allocator())?;
     Ok(groups)
 }
 
@@ -88,26 +91,57 @@ pub fn group_by_detected<T: Threads + Sync, G: Gate + Sync>(
         IsWellFormed (frame_height (keys_in keys.now)) (groups_of made.0).pairs) }
     ensures err { IfErr result IsNoMemory }
 {
+    let (classes, path) = classes_by_detected(rt, keys, multithreaded, sorted, false, pool, gate)?;
+    let groups = classes.into_groups(keys[0].allocator())?;
+    Ok((groups, path))
+}
+
+/// The same, as the number of each row's group where that is wanted, the groups are to be in the order of their
+/// first rows, and their rows are grouped by a table.
+pub fn classes_by_detected<T: Threads + Sync, G: Gate + Sync>(
+    rt: &T,
+    keys: &[&Series],
+    multithreaded: bool,
+    sorted: bool,
+    by_numbers: bool,
+    pool: &Pool,
+    gate: &G,
+) -> PolarsResult<(Classes, Path)>
+    requires some { 0 < length keys.now }
+    requires aligned { AreOfOneLength (keys_in keys.now) }
+    requires few { HasRowNumbers (frame_height (keys_in keys.now)) }
+    ensures ok { IfOk result (λ made. AreFound (keys_in keys.now) multithreaded sorted pool.now
+        (grouping_of made.0) (path_value made.1)) }
+    ensures classes { IfOk result (λ made. sorted ≡ true
+        → (grouping_of made.0).pairs ≡ groups (agree_by (slots_of (keys_in keys.now)))
+        (rows_below (frame_height (keys_in keys.now)))) }
+    ensures whole { let keys = keys_in keys.now in IfOk result (λ made.
+        AreClasses (agree_by (slots_of keys)) (frame_height keys) (grouping_of made.0).pairs) }
+    ensures formed { IfOk result (λ made.
+        IsWellFormed (frame_height (keys_in keys.now)) (grouping_of made.0).pairs) }
+    ensures err { IfErr result IsNoMemory }
+{
     if keys.len() == 1 {
-        return group_in_order(rt, keys[0], multithreaded, sorted, pool, gate);
+        return classes_in_order(rt, keys[0], multithreaded, sorted, by_numbers, pool, gate);
     }
-    group_several(rt, keys, multithreaded, sorted, pool, gate)
+    classes_several(rt, keys, multithreaded, sorted, by_numbers, pool, gate)
 }
 
 // The groups of the rows of a key, by the order that it is found to be in, and the path to them.
-fn group_in_order<T: Threads + Sync, G: Gate + Sync>(
+fn classes_in_order<T: Threads + Sync, G: Gate + Sync>(
     rt: &T,
     key: &Series,
     multithreaded: bool,
     sorted: bool,
+    by_numbers: bool,
     pool: &Pool,
     gate: &G,
-) -> PolarsResult<(GroupsType, Path)>
+) -> PolarsResult<(Classes, Path)>
     requires few { HasRowNumbers (length (value_of key.now).slots) }
     ensures ok { IfOk result (λ made. AreFound (value_of key.now ∷ []) multithreaded sorted
-        pool.now (groups_of made.0) (path_value made.1)) }
+        pool.now (grouping_of made.0) (path_value made.1)) }
     ensures formed { IfOk result (λ made.
-        IsWellFormed (length (value_of key.now).slots) (groups_of made.0).pairs) }
+        IsWellFormed (length (value_of key.now).slots) (grouping_of made.0).pairs) }
     ensures err { IfErr result IsNoMemory }
 {
     let order = KeyOrder {
@@ -115,39 +149,63 @@ fn group_in_order<T: Threads + Sync, G: Gate + Sync>(
         whole: true,
     };
     let path = path_of(key, order, multithreaded, pool);
-    let groups = group_column(rt, key, order, multithreaded, sorted, pool, gate)?;
-    Ok((groups, path))
+    match path {
+        Path::Table => {
+            let keyed = KeyPath::Table;
+            let made = classes_by_path(rt, key, keyed, sorted, by_numbers, pool, gate)?;
+            Ok((made, path))
+        }
+        Path::Threaded => {
+            let keyed = KeyPath::Threaded;
+            let made = classes_by_path(rt, key, keyed, sorted, by_numbers, pool, gate)?;
+            Ok((made, path))
+        }
+        _ => {
+            let groups = group_series(rt, key, order, multithreaded, sorted, pool, gate)?;
+            Ok((Classes::Groups(groups), path))
+        }
+    }
 }
 
 // The groups of the rows of several keys, and the path to them.
-fn group_several<T: Threads + Sync, G: Gate + Sync>(
+fn classes_several<T: Threads + Sync, G: Gate + Sync>(
     rt: &T,
     keys: &[&Series],
     multithreaded: bool,
     sorted: bool,
+    by_numbers: bool,
     pool: &Pool,
     gate: &G,
-) -> PolarsResult<(GroupsType, Path)>
+) -> PolarsResult<(Classes, Path)>
     requires several { 1 < length keys.now }
     requires aligned { AreOfOneLength (keys_in keys.now) }
     requires few { HasRowNumbers (frame_height (keys_in keys.now)) }
     ensures ok { IfOk result (λ made.
-        groups_of made.0 ≡ tuples_by (keys_in keys.now) multithreaded sorted pool.now) }
+        grouping_of made.0 ≡ tuples_by (keys_in keys.now) multithreaded sorted pool.now) }
     ensures path { IfOk result (λ made.
         path_value made.1 ≡ all_path (keys_in keys.now) multithreaded pool.now) }
     ensures formed { IfOk result (λ made.
-        IsWellFormed (frame_height (keys_in keys.now)) (groups_of made.0).pairs) }
+        IsWellFormed (frame_height (keys_in keys.now)) (grouping_of made.0).pairs) }
     ensures err { IfErr result IsNoMemory }
 {
     let alloc = keys[0].allocator();
     let valued = valued_keys(alloc, keys)?;
     if valued.is_empty() {
         let groups = one_run(alloc, keys[0].len())?;
-        return Ok((groups, Path::Nulls));
+        return Ok((Classes::Groups(groups), Path::Nulls));
     }
-    let groups = group_row_bytes(rt, alloc, &valued, multithreaded, sorted, pool, gate)?;
+    let made = classes_of_row_bytes(
+        rt,
+        alloc,
+        &valued,
+        multithreaded,
+        sorted,
+        by_numbers,
+        pool,
+        gate,
+    )?;
     let path = choose_path(true, keys[0].len(), multithreaded, pool);
-    Ok((groups, Path::from(path)))
+    Ok((made, Path::from(path)))
 }
 
 // The keys that tell rows apart.
@@ -195,28 +253,30 @@ fn is_valued_flat(column: &FlatSeries) -> bool
 }
 
 // The groups of the rows of keys by their bytes.
-fn group_row_bytes<T: Threads + Sync, G: Gate + Sync>(
+fn classes_of_row_bytes<T: Threads + Sync, G: Gate + Sync>(
     rt: &T,
     alloc: Global,
     keys: &[&Series],
     multithreaded: bool,
     sorted: bool,
+    by_numbers: bool,
     pool: &Pool,
     gate: &G,
-) -> PolarsResult<GroupsType>
+) -> PolarsResult<Classes>
     requires some { 0 < length keys.now }
     requires aligned { AreOfOneLength (keys_in keys.now) }
     requires few { HasRowNumbers (frame_height (keys_in keys.now)) }
-    ensures ok { IfOk result (λ g.
-        groups_of g ≡ tuples_of_bytes (keys_in keys.now) multithreaded sorted pool.now) }
+    ensures ok { IfOk result (λ made.
+        grouping_of made ≡ tuples_of_bytes (keys_in keys.now) multithreaded sorted pool.now) }
     ensures told { OnOk result (AreToldByRows (keys_in keys.now)) }
-    ensures formed { IfOk result (λ g.
-        IsWellFormed (frame_height (keys_in keys.now)) (groups_of g).pairs) }
+    ensures formed { IfOk result (λ made.
+        IsWellFormed (frame_height (keys_in keys.now)) (grouping_of made).pairs) }
     ensures err { IfErr result IsNoMemory }
 {
     let single = Pool::new(1, 1, 1, 1, 0);
     let encoders = if multithreaded { pool } else { &single };
     let bytes = encode_rows_vertical_par_unordered(rt, alloc, keys, encoders)?;
     let path = choose_path(true, bytes.len(), multithreaded, pool);
-    group_keys(rt, alloc, &Keys::RowBytes(bytes), path, sorted, pool, gate)
+    let rows = Keys::RowBytes(bytes);
+    classes_of_keys(rt, alloc, &rows, path, sorted, by_numbers, pool, gate)
 }

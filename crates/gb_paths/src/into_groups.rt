@@ -16,9 +16,9 @@ ghost use Rattle.gb_paths.specs.Keys.{byte_rows, null_rows, rows_of_keys};
 ghost use Rattle.gb_paths.specs.Tuples.{IsPerfect, key_path_value, ordered, tuples_of, tuples_on};
 
 use crate::group_by::group_uncounted;
-use crate::keys::{KeyColumn, Keys, byte_chunks};
+use crate::keys::{KeyColumn, Keys, byte_chunks, with_rows};
 use crate::path::{KeyOrder, KeyPath, Path, order_of, path_of};
-use crate::run_groups::group_runs;
+use crate::run_groups::{group_runs, group_runs_threaded};
 use crate::threaded::group_by_threaded_iter;
 use gb_base::device::Gate;
 use gb_base::error::PolarsResult;
@@ -52,7 +52,6 @@ pub trait IntoGroupsType: SeriesTrait {
         pool: &Pool,
     ) -> PolarsResult<GroupsType>
         requires row_type { IsSync T.row }
-        requires column_type { IsSync Self.row }
         requires few { HasRowNumbers (length (Self.value self.now).slots) }
         ensures ok { IfOk result (λ g.
             groups_of g ≡ tuples_of (Self.value self.now) multithreaded sorted pool.now) }
@@ -61,7 +60,7 @@ pub trait IntoGroupsType: SeriesTrait {
         ensures err { IfErr result IsNoMemory };
 }
 
-impl<C: KeyColumn + Sync> IntoGroupsType for C {
+impl<C: KeyColumn> IntoGroupsType for C {
     fn group_tuples<T: Threads + Sync>(
         &self,
         rt: &T,
@@ -97,12 +96,59 @@ pub fn group_tuples_gated<T: Threads + Sync, G: Gate + Sync>(
         IsWellFormed (length (value_of key.now).slots) (groups_of g).pairs) }
     ensures err { IfErr result IsNoMemory }
 {
-    group_column(rt, key, order_of(key), multithreaded, sorted, pool, gate)
+    group_series(rt, key, order_of(key), multithreaded, sorted, pool, gate)
+}
+
+/// `group_column` of a series, whose runs are found by all workers: what a thread may be sent is known of a
+/// type with a name, and not of the parameter of an `impl`.
+pub(crate) fn group_series<T: Threads + Sync, G: Gate + Sync>(
+    rt: &T,
+    key: &Series,
+    order: KeyOrder,
+    multithreaded: bool,
+    sorted: bool,
+    pool: &Pool,
+    gate: &G,
+) -> PolarsResult<GroupsType>
+    requires few { HasRowNumbers (length (value_of key.now).slots) }
+    requires holds { let key = value_of key.now in
+        IsFlagTrue (flag_of order.sorted) key.dtype key.slots }
+    ensures ok { let key = ordered order (value_of key.now) in IfOk result (λ g.
+        groups_of g ≡ tuples_of key multithreaded sorted pool.now) }
+    ensures formed { IfOk result (λ g.
+        IsWellFormed (length (value_of key.now).slots) (groups_of g).pairs) }
+    ensures err { IfErr result IsNoMemory }
+{
+    let groups = group_series_on_path(rt, key, order, multithreaded, sorted, pool, gate)?;
+    Ok(groups)
+}
+
+// The same, whatever else holds of groups.
+fn group_series_on_path<T: Threads + Sync, G: Gate + Sync>(
+    rt: &T,
+    key: &Series,
+    order: KeyOrder,
+    multithreaded: bool,
+    sorted: bool,
+    pool: &Pool,
+    gate: &G,
+) -> PolarsResult<GroupsType>
+    requires few { HasRowNumbers (length (value_of key.now).slots) }
+    requires holds { let key = value_of key.now in
+        IsFlagTrue (flag_of order.sorted) key.dtype key.slots }
+    ensures ok { let key = ordered order (value_of key.now) in IfOk result (λ g.
+        groups_of g ≡ tuples_of key multithreaded sorted pool.now) }
+    ensures err { IfErr result IsNoMemory }
+{
+    match path_of(key, order, multithreaded, pool) {
+        Path::Sorted => group_runs_threaded(rt, key, pool),
+        _ => group_column(rt, key, order, multithreaded, sorted, pool, gate),
+    }
 }
 
 /// The groups of a column's rows by the path of its type and length, where they stand in an order; each
 /// partition enters the gate with its number, and leaves it.
-pub fn group_column<T: Threads + Sync, C: KeyColumn + Sync, G: Gate + Sync>(
+pub fn group_column<T: Threads + Sync, C: KeyColumn, G: Gate + Sync>(
     rt: &T,
     column: &C,
     order: KeyOrder,
@@ -125,7 +171,7 @@ pub fn group_column<T: Threads + Sync, C: KeyColumn + Sync, G: Gate + Sync>(
 }
 
 // The same, whatever else holds of groups.
-fn group_on_path<T: Threads + Sync, C: KeyColumn + Sync, G: Gate + Sync>(
+fn group_on_path<T: Threads + Sync, C: KeyColumn, G: Gate + Sync>(
     rt: &T,
     column: &C,
     order: KeyOrder,
@@ -143,7 +189,7 @@ fn group_on_path<T: Threads + Sync, C: KeyColumn + Sync, G: Gate + Sync>(
 {
     match path_of(column, order, multithreaded, pool) {
         Path::Nulls => one_run(column.allocator(), column.len()),
-        Path::Sorted => group_runs(rt, column, pool),
+        Path::Sorted => group_runs(column),
         Path::Perfect => group_perfect(column, sorted),
         Path::Table => group_by_path(rt, column, KeyPath::Table, sorted, pool, gate),
         Path::Threaded => group_by_path(rt, column, KeyPath::Threaded, sorted, pool, gate),
@@ -231,37 +277,11 @@ pub(crate) fn group_keys<T: Threads + Sync, G: Gate + Sync>(
     ensures err { IfErr result IsNoMemory }
 {
     let mixer = SeedMixer::new(pool.seed());
-    match keys {
-        Keys::Plain(words) => {
-            let rows = SliceRows::new(words.as_slice(), mixer);
-            group_rows(rt, alloc, &rows, path, sorted, pool, gate)
-        }
-        Keys::Words(words) => {
-            let rows = ListRows::new(words.as_slice(), mixer);
-            group_rows(rt, alloc, &rows, path, sorted, pool, gate)
-        }
-        Keys::PlainCodes(codes) => {
-            let rows = SliceRows::new(codes.as_slice(), mixer);
-            group_rows(rt, alloc, &rows, path, sorted, pool, gate)
-        }
-        Keys::Codes(codes) => {
-            let rows = ListRows::new(codes.as_slice(), mixer);
-            group_rows(rt, alloc, &rows, path, sorted, pool, gate)
-        }
-        Keys::Wide(words) => {
-            let rows = ListRows::new(words.as_slice(), mixer);
-            group_rows(rt, alloc, &rows, path, sorted, pool, gate)
-        }
-        Keys::Texts(texts) => {
-            let rows = ChunkRows::new(texts, mixer);
-            group_rows(rt, alloc, &rows, path, sorted, pool, gate)
-        }
-        Keys::Bytes(bytes) => {
-            let rows = ListRows::new(bytes.as_slice(), mixer);
-            group_rows(rt, alloc, &rows, path, sorted, pool, gate)
-        }
-        Keys::RowBytes(bytes) => group_bytes(rt, alloc, bytes, path, sorted, pool, gate),
-    }
+    with_rows!(
+        keys, mixer,
+        rows => group_rows(rt, alloc, &rows, path, sorted, pool, gate),
+        bytes => group_bytes(rt, alloc, bytes, path, sorted, pool, gate)
+    )
 }
 
 // The groups of rows by their bytes, which are read as they lie where no row is null.

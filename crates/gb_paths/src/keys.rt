@@ -361,3 +361,42 @@ fn nested_keys(key: &Series) -> PolarsResult<Keys<'_>>
     let rows = encode_rows_unordered(key.allocator(), slice::from_ref(key))?;
     Ok(Keys::RowBytes(rows))
 }
+
+/// What a call gives on the rows that keys are of, or on those of a column of bytes.
+macro_rules! with_rows {
+    ($keys:expr, $mixer:expr, $rows:ident => $call:expr, $bytes:ident => $of_bytes:expr) => {
+        match $keys {
+            Keys::Plain(words) => {
+                let $rows = SliceRows::new(words.as_slice(), $mixer);
+                $call
+            }
+            Keys::Words(words) => {
+                let $rows = ListRows::new(words.as_slice(), $mixer);
+                $call
+            }
+            Keys::PlainCodes(codes) => {
+                let $rows = SliceRows::new(codes.as_slice(), $mixer);
+                $call
+            }
+            Keys::Codes(codes) => {
+                let $rows = ListRows::new(codes.as_slice(), $mixer);
+                $call
+            }
+            Keys::Wide(words) => {
+                let $rows = ListRows::new(words.as_slice(), $mixer);
+                $call
+            }
+            Keys::Texts(texts) => {
+                let $rows = ChunkRows::new(texts, $mixer);
+                $call
+            }
+            Keys::Bytes(bytes) => {
+                let $rows = ListRows::new(bytes.as_slice(), $mixer);
+                $call
+            }
+            Keys::RowBytes($bytes) => $of_bytes,
+        }
+    };
+}
+
+pub(crate) use with_rows;

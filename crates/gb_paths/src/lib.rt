@@ -6,13 +6,17 @@
 
 pub mod by_keys;
 pub mod categories;
+pub mod classes;
 pub mod group_by;
 pub mod into_groups;
 pub mod keys;
+mod number_rows;
 pub mod path;
 mod plain_words;
+mod range_rows;
 mod row_groups;
 mod row_hashes;
+pub mod row_numbers;
 mod row_partitions;
 mod run_groups;
 pub mod threaded;

@@ -23,9 +23,23 @@ use std::thread::Threads;
 /// For fewer rows a worker no thread is started.
 const SHARE_ROWS: usize = 65_536;
 
-/// The runs of rows that hold one slot, in their order: all rows of a slot are one run. Each worker finds the
-/// first rows of runs among some rows that follow each other, so no run is cut.
-pub(crate) fn group_runs<T: Threads + Sync, C: KeyColumn + Sync>(
+/// The runs of rows that hold one slot, in their order: all rows of a slot are one run.
+pub(crate) fn group_runs<C: KeyColumn>(column: &C) -> PolarsResult<GroupsType>
+    requires runs { HasRuns (C.value column.now).dtype }
+    requires few { HasRowNumbers (length (C.value column.now).slots) }
+    requires together { AreTogether (C.value column.now).slots }
+    ensures ok { let rows = rows_in (C.value column.now).slots in
+        IfOk result (λ g. groups_of g ≡ run_groups rows) }
+    ensures err { IfErr result IsNoMemory }
+{
+    let starts = starts_of_part(column, (0, column.len()))?;
+    let groups = runs_from(column, starts.as_slice())?;
+    Ok(groups)
+}
+
+/// `group_runs`, where each worker finds the first rows of runs among some rows that follow each other, so
+/// that no run is cut.
+pub(crate) fn group_runs_threaded<T: Threads + Sync, C: KeyColumn + Sync>(
     rt: &T,
     column: &C,
     pool: &Pool,
@@ -38,8 +52,21 @@ pub(crate) fn group_runs<T: Threads + Sync, C: KeyColumn + Sync>(
     ensures err { IfErr result IsNoMemory }
 {
     let starts = find_starts(rt, column, pool)?;
+    let groups = runs_from(column, starts.as_slice())?;
+    Ok(groups)
+}
+
+// The runs that begin at these rows.
+fn runs_from<C: KeyColumn>(column: &C, starts: &[IdxSize]) -> PolarsResult<GroupsType>
+    requires few { HasRowNumbers (length (C.value column.now).slots) }
+    requires together { AreTogether (C.value column.now).slots }
+    requires starts { starts.now ≡ run_starts (rows_in (C.value column.now).slots) }
+    ensures ok { let rows = rows_in (C.value column.now).slots in
+        IfOk result (λ g. groups_of g ≡ run_groups rows) }
+    ensures err { IfErr result IsNoMemory }
+{
     let count = column.len() as IdxSize;
-    let runs = runs_between(column.allocator(), starts.as_slice(), count)?;
+    let runs = runs_between(column.allocator(), starts, count)?;
     Ok(GroupsType::Slice {
         groups: GroupsSlice::from_vec(runs),
         rolling: false,

@@ -30,7 +30,7 @@ returns-clause-classes g c =
     let keys = keys_in lent in
     let pool = c.args.pool.now in
     let some : 0 < length keys = rw (length-map lent (λ key. value_of key.now)) c.requires.some in
-    λ sorted. ap (λ g. g.pairs) c.in_ok-groups.ensures.ok
+    λ sorted. ap (λ g. g.pairs) (c.in_ok-groups.ensures.ok ∙ c.in_ok-classes.ensures.ok)
     ∙ ap (λ s. (tuples_by keys c.args.multithreaded s pool).pairs) sorted
     ∙ classes_by keys c.args.multithreaded pool some
 
@@ -49,5 +49,5 @@ returns-clause-whole g c =
     let lent = c.args.keys.now in
     let keys = keys_in lent in
     let some : 0 < length keys = rw (length-map lent (λ key. value_of key.now)) c.requires.some in
-    subst (λ (g : Grouping). AreClasses (agree_by (slots_of keys)) (frame_height keys) g.pairs) (sym c.in_ok-groups.ensures.ok)
+    subst (λ (g : Grouping). AreClasses (agree_by (slots_of keys)) (frame_height keys) g.pairs) (sym (c.in_ok-groups.ensures.ok ∙ c.in_ok-classes.ensures.ok))
     (keys_classes keys c.args.multithreaded c.args.sorted c.args.pool.now some)

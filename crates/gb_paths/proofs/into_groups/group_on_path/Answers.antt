@@ -32,7 +32,7 @@ returns-in-Sorted-clause-ok g c =
     IfOk-weaker c.group_runs.result _ _ (λ groups h. h ∙ ap (λ p. tuples_on p key c.args.sorted pool) (sym way)) c.group_runs.ensures.ok
 
 pub group_runs-requires-clause-runs : goal.group_runs-requires-clause-runs
-group_runs-requires-clause-runs g c κs within =
+group_runs-requires-clause-runs g c =
     let key = ordered c.args.order (g.C.SeriesTrait.value c.args.column.now) in
     let pool = c.args.pool.now in
     runs_told key c.args.multithreaded pool (sym c.path_of.ensures.path ∙ ap path_value c.in-Sorted.is)

@@ -1,15 +1,6 @@
-use Rattle.std.proofs.Common.{arith, ◌≡◌, ℕ, List, length, sym, ◌∙◌, ap}
-use Rattle.std.proofs.lemmas.List.{length-map}
-use Rattle.std.proofs.lemmas.List.FromFn.{length-map-range_with_len}
-use Rattle.smallvec.specs.SmallVec.{SmallVec}
-use Rattle.gb_groups.specs.Groups.{lists_of}
-use Rattle.gb_groups.specs.Numbers.{lists_by, rows_of}
-use Rattle.gb_paths.proofs.MemberLemmas.{few_members}
+use Rattle.std.proofs.Common.{arith, length, ◌∙◌, ap}
+use Rattle.gb_paths.proofs.MemberLemmas.{as_many, few_members}
 use Rattle.gb_paths.proofs.row_groups.group_members.Goals as goal
-
-as_many : (rows numbers : List ℕ) (groups : ℕ) (lists : List (SmallVec ℕ)) → lists_of lists ≡ lists_by rows numbers groups → groups ≡ length lists
-as_many rows numbers groups lists made =
-    sym (sym (length-map lists (λ (list : SmallVec ℕ). list.items)) ∙ ap length made ∙ length-map-range_with_len (rows_of rows numbers) 0 groups)
 
 pub row_lists-requires-clause-few : goal.row_lists-requires-clause-few
 row_lists-requires-clause-few g c =

@@ -7,20 +7,20 @@ use Rattle.gb_defs.specs.Hash.{seed_mix}
 use Rattle.gb_defs.specs.Path.{hashed_path}
 use Rattle.gb_defs.specs.Rows.{rows_of_slots}
 use Rattle.gb_base.specs.Pool.{partitions_of, seed_of, threshold_of, workers_of}
-use Rattle.gb_groups.specs.GroupsType.{groups_of}
+use Rattle.gb_paths.specs.Classes.{grouping_of}
 use Rattle.gb_rows.specs.Lent.{keys_in}
 use Rattle.gb_rows.specs.Rows.{row_slots}
 use Rattle.gb_paths.proofs.FormLemmas.{path_formed}
 use Rattle.gb_paths.proofs.RowBytesLemmas.{rows_many}
-use Rattle.gb_paths.proofs.by_keys.group_row_bytes.Goals as goal
+use Rattle.gb_paths.proofs.by_keys.classes_of_row_bytes.Goals as goal
 
-pub group_keys-requires-clause-few : goal.group_keys-requires-clause-few
-group_keys-requires-clause-few g c κs within =
+pub classes_of_keys-requires-clause-few : goal.classes_of_keys-requires-clause-few
+classes_of_keys-requires-clause-few g c κs within =
     let many = ap (λ v. length v.slots) c.in_ok-bytes.ensures.ok ∙ rows_many (keys_in c.args.keys.now) in
     subst HasRowNumbers (sym many) c.requires.few
 
 pub returns-clause-formed : goal.returns-clause-formed
 returns-clause-formed g c =
     let many = ap (λ v. length v.slots) c.in_ok-bytes.ensures.ok ∙ rows_many (keys_in c.args.keys.now) in
-    IfOk-weaker c.group_keys.result _ _ (λ groups h. subst (λ n. IsWellFormed n (groups_of groups).pairs) many
-    (subst (λ (made : Grouping). IsWellFormed (length c.in_ok-bytes.bytes.slots) made.pairs) (sym h) (path_formed _ _ 0 _ _))) c.group_keys.ensures.ok
+    IfOk-weaker c.classes_of_keys.result _ _ (λ groups h. subst (λ n. IsWellFormed n (grouping_of groups).pairs) many
+    (subst (λ (made : Grouping). IsWellFormed (length c.in_ok-bytes.bytes.slots) made.pairs) (sym h) (path_formed _ _ 0 _ _))) c.classes_of_keys.ensures.ok

@@ -4,7 +4,7 @@ use Rattle.gb_defs.specs.Column.{frame_height}
 use Rattle.gb_defs.specs.Groups.{IsWellFormed}
 use Rattle.gb_defs.specs.Path.{hashed_path, run_groups}
 use Rattle.gb_base.specs.Pool.{threshold_of, workers_of}
-use Rattle.gb_groups.specs.GroupsType.{groups_of}
+use Rattle.gb_paths.specs.Classes.{grouping_of}
 use Rattle.gb_series.specs.Series.{value_of}
 use Rattle.gb_rows.specs.Lent.{keys_in}
 use Rattle.gb_rows.specs.Rows.{AreOfOneLength}
@@ -13,7 +13,7 @@ use Rattle.gb_paths.specs.Keys.{null_rows}
 use Rattle.gb_defs.specs.Notes.{path_by_keys, valued_keys}
 use Rattle.gb_paths.specs.Tuples.{tuples_of_bytes}
 use Rattle.gb_paths.proofs.SeveralLemmas.{first_lent, none_lent, some_path, tuples_by_bytes, tuples_by_none, valued_height, valued_length}
-use Rattle.gb_paths.proofs.by_keys.group_several.Goals as goal
+use Rattle.gb_paths.proofs.by_keys.classes_several.Goals as goal
 
 pub returns-then-is_empty-clause-ok : goal.returns-then-is_empty-clause-ok
 returns-then-is_empty-clause-ok g c =
@@ -37,8 +37,8 @@ returns-then-is_empty-clause-path g c =
     let valued : valued_keys keys ≡ [] = sym c.in_ok-valued.ensures.valued ∙ none_lent items none in
     sym (ap (λ ks. path_by_keys ks (frame_height keys) c.args.multithreaded (workers_of pool) (threshold_of pool)) valued)
 
-pub group_row_bytes-requires-clause-aligned : goal.group_row_bytes-requires-clause-aligned
-group_row_bytes-requires-clause-aligned g c κs within =
+pub classes_of_row_bytes-requires-clause-aligned : goal.classes_of_row_bytes-requires-clause-aligned
+classes_of_row_bytes-requires-clause-aligned g c κs within =
     let keys = keys_in c.args.keys.now in
     let items = c.in_ok-valued.valued.items in
     let valued = c.in_ok-valued.ensures.valued in
@@ -46,8 +46,8 @@ group_row_bytes-requires-clause-aligned g c κs within =
     let some_keys : 0 < length (valued_keys keys) = subst (λ ks. 0 < length ks) valued (rw (length-map items (λ key. value_of key.now)) some) in
     subst AreOfOneLength (sym (ap keys_in c.deref.ensures.value ∙ valued)) (valued_length keys c.requires.aligned some_keys)
 
-pub group_row_bytes-requires-clause-few : goal.group_row_bytes-requires-clause-few
-group_row_bytes-requires-clause-few g c κs within =
+pub classes_of_row_bytes-requires-clause-few : goal.classes_of_row_bytes-requires-clause-few
+classes_of_row_bytes-requires-clause-few g c κs within =
     let keys = keys_in c.args.keys.now in
     let items = c.in_ok-valued.valued.items in
     let valued = c.in_ok-valued.ensures.valued in
@@ -65,8 +65,8 @@ returns-clause-ok g c =
     let some : 0 < length items = search rules in
     let some_keys : 0 < length (valued_keys keys) = subst (λ ks. 0 < length ks) valued (rw (length-map items (λ key. value_of key.now)) some) in
     let many : 1 < length keys = rw (length-map lent (λ key. value_of key.now)) c.requires.several in
-    c.in_ok-groups-2.ensures.ok ∙ ap (λ ks. tuples_of_bytes ks c.args.multithreaded c.args.sorted c.args.pool.now) bytes
-    ∙ tuples_by_bytes keys many c.requires.aligned c.in_ok-valued.ensures.nulls c.args.multithreaded c.args.sorted c.args.pool.now some_keys (subst AreToldByRows bytes c.in_ok-groups-2.ensures.told)
+    c.in_ok-made.ensures.ok ∙ ap (λ ks. tuples_of_bytes ks c.args.multithreaded c.args.sorted c.args.pool.now) bytes
+    ∙ tuples_by_bytes keys many c.requires.aligned c.in_ok-valued.ensures.nulls c.args.multithreaded c.args.sorted c.args.pool.now some_keys (subst AreToldByRows bytes c.in_ok-made.ensures.told)
 
 pub returns-clause-path : goal.returns-clause-path
 returns-clause-path g c =
@@ -91,4 +91,4 @@ returns-clause-formed g c =
     let some : 0 < length items = search rules in
     let some_keys : 0 < length (valued_keys keys) = subst (λ ks. 0 < length ks) valued (rw (length-map items (λ key. value_of key.now)) some) in
     let high = ap frame_height (ap keys_in c.deref.ensures.value ∙ valued) ∙ valued_height keys c.requires.aligned some_keys in
-    subst (λ n. IsWellFormed n (groups_of c.in_ok-groups-2.groups).pairs) high c.in_ok-groups-2.ensures.formed
+    subst (λ n. IsWellFormed n (grouping_of c.in_ok-made.made).pairs) high c.in_ok-made.ensures.formed
