@@ -1,11 +1,23 @@
 -- What is known of the slots of each group, one row more.
-use Rattle.std.proofs.Common.{◌≡◌, ◌∙◌, ap, sym, refl, subst, ℕ, ◌+◌, ◌<◌, cond, inl, inr, eqb, false, List, [], ◌∷◌, ◌++◌, All, length, get_or, set, take, arith}
+use Rattle.std.proofs.Common.{◌≡◌, ◌∙◌, ap, sym, refl, subst, ap₂, ℕ, suc, ◌+◌, ◌<◌, cond, map, pos, ℤ, inl, inr, eqb, false, List, [], ◌∷◌, ◌++◌, All, length, get_or, set, take, arith}
+use Rattle.std.specs.List.{range_with_len}
+use Rattle.std.proofs.lemmas.List.Elements.{All-from_recursion}
+use Rattle.std.proofs.lemmas.List.FromFn.{length-range_with_len}
+use Rattle.std.proofs.lemmas.Simd.{map-map}
 use Rattle.std.proofs.lemmas.Bool.{cases_eq, eq-eqb, ne_eqb}
 use Rattle.std.proofs.lemmas.List.{append-nil, get_or-set_other, get_or-set_same, length-set, length-take, map-append, take_all, take_more}
-use Rattle.gb_defs.specs.Fold.{picked}
-use Rattle.gb_defs.specs.Slot.{Slot, slot_at}
-use Rattle.gb_groups.proofs.NumberLemmas.{rows_push}
-use Rattle.gb_groups.specs.Numbers.{rows_of}
+use Rattle.gb_defs.specs.Classes.{rows_below}
+use Rattle.gb_defs.specs.ColumnType.{ColumnType}
+use Rattle.gb_defs.specs.Fold.{Sum, fold_of, fold_picked, picked, total, valid, wrap}
+use Rattle.gb_defs.specs.Groups.{lists_in}
+use Rattle.gb_defs.specs.Slot.{Slot, Nil, Num, slot_at}
+use Rattle.gb_defs.proofs.ClassesLemmas.{rows_below_all}
+use Rattle.gb_paths.specs.Numbering.{numbered}
+use Rattle.gb_paths.specs.declared.row_numbers.RowNumbers.{RowNumbers}
+use Rattle.gb_paths.proofs.NumberingLemmas.{pairs_lists}
+use Rattle.gb_groups.proofs.NumberLemmas.{length-rows_of, map_range_same, rows_push}
+use Rattle.gb_groups.specs.Numbers.{count_of, counts_by, lists_by, rows_of}
+use Rattle.gb_agg.specs.Folds.{rows_fold}
 use Rattle.gb_agg.specs.Numbered.{HoldEach}
 
 module _ {S : Type 0} (holds : List Slot → S → Type 0) (slots : List Slot) (rows numbers : List ℕ) (groups : ℕ) where
@@ -46,3 +58,70 @@ module _ {S : Type 0} (holds : List Slot → S → Type 0) (slots : List Slot) (
   each_all n states each all have =
       subst (λ (rs : List ℕ). HoldEach holds slots rs numbers groups states) (take_all n rows (omega (arith, each, all)))
       (subst (λ (ns : List ℕ). HoldEach holds slots (take n rows) ns groups states) (take_all n numbers (omega (arith, all))) have)
+
+-- ---- states as slots
+
+states_by : {S : Type 0} (slot_of : S → Slot) (f : ℕ → Slot) (states : List S) (j : ℕ) → ((k : ℕ) (d : S) → k < length states → slot_of (get_or states k d) ≡ f (j + k)) →
+    map slot_of states ≡ map f (range_with_len j (length states))
+states_by slot_of f [] j each = refl
+states_by slot_of f (state ∷ states) j each =
+    let first : j + 0 ≡ j = omega arith in
+    ap₂ (λ (s : Slot) ss. s ∷ ss) (rw first at (each 0 state (omega arith)))
+    (states_by slot_of f states (j + 1) (λ k d lt. let next : j + suc k ≡ j + 1 + k = omega arith in rw next at (each (suc k) d (omega (arith, lt)))))
+
+-- what is known of each group's slots is what is made of its rows
+pub states_folded : {S : Type 0} (holds : List Slot → S → Type 0) (slot_of : S → Slot) (fold : List ℕ → Slot) (slots : List Slot) (rows numbers : List ℕ) (groups : ℕ) (states : List S) →
+    ((some : List ℕ) (state : S) → holds (picked slots some) state → slot_of state ≡ fold some) → HoldEach holds slots rows numbers groups states →
+    map slot_of states ≡ map fold (lists_by rows numbers groups)
+states_folded holds slot_of fold slots rows numbers groups states means have =
+    states_by slot_of (λ k. fold (rows_of rows numbers k)) states 0 (λ k d lt. let here : 0 + k ≡ k = omega arith in
+    rw here (means (rows_of rows numbers k) (get_or states k d) (have.each k d (omega (arith, lt, have.as_many)))))
+    ∙ ap (λ n. map (λ k. fold (rows_of rows numbers k)) (range_with_len 0 n)) have.as_many
+    ∙ sym (map-map fold (rows_of rows numbers) (range_with_len 0 groups))
+
+-- how many rows there are of each number
+pub counts_folded : (rows numbers : List ℕ) (groups : ℕ) → length numbers ≡ length rows → map (λ n. Num (pos n)) (counts_by numbers groups) ≡ map rows_fold (lists_by rows numbers groups)
+counts_folded rows numbers groups each =
+    map-map (λ n. Num (pos n)) (count_of numbers) (range_with_len 0 groups)
+    ∙ map_range_same (λ k. Num (pos (count_of numbers k))) (λ k. rows_fold (rows_of rows numbers k)) groups Nil (λ k lt. ap (λ n. Num (pos n)) (sym (length-rows_of rows numbers k each)))
+    ∙ sym (map-map rows_fold (rows_of rows numbers) (range_with_len 0 groups))
+
+-- ---- sums
+
+sum_of : (t : ColumnType) (slots : List Slot) (rows : List ℕ) → fold_of Sum t slots rows ≡ Num (wrap t (total (valid (picked slots rows))))
+unfolding fold_picked
+sum_of t slots rows = refl
+
+-- sums that are known of each group are the folds over its rows
+pub sums_folded : {S : Type 0} (number : S → ℤ) (t : ColumnType) (slots : List Slot) (rows numbers : List ℕ) (groups : ℕ) (sums : List S) →
+    HoldEach (λ some sum. number sum ≡ wrap t (total (valid some))) slots rows numbers groups sums → map (λ sum. Num (number sum)) sums ≡ map (fold_of Sum t slots) (lists_by rows numbers groups)
+sums_folded number t slots rows numbers groups sums have =
+    states_folded (λ some sum. number sum ≡ wrap t (total (valid some))) (λ sum. Num (number sum)) (fold_of Sum t slots) slots rows numbers groups sums
+    (λ some sum known. ap (λ n. Num n) known ∙ sym (sum_of t slots some)) have
+
+-- ---- numbers of all rows
+
+pub rows_inside : (count n : ℕ) → count ≡ n → All (λ row. row < n) (rows_below count)
+rows_inside count n same = rw (← same) (All-from_recursion (λ row. row < count) (rows_below count) (rows_below_all count))
+
+-- sums by the numbers of all rows are those over the groups
+pub sums_numbered : {S : Type 0} (number : S → ℤ) (t : ColumnType) (slots : List Slot) (numbers : RowNumbers) (count groups : ℕ) (given : List ℕ) (sums : List S) →
+    count ≡ length numbers.of_rows.items → given ≡ numbers.of_rows.items → groups ≡ length numbers.first.items →
+    HoldEach (λ some sum. number sum ≡ wrap t (total (valid some))) slots (rows_below count) given groups sums →
+    map (λ sum. Num (number sum)) sums ≡ map (fold_of Sum t slots) (lists_in (numbered numbers))
+sums_numbered number t slots numbers count groups given sums many same known have =
+    sums_folded number t slots (rows_below count) given groups sums have
+    ∙ ap (λ n. map (fold_of Sum t slots) (lists_by (rows_below n) given groups)) many
+    ∙ ap (λ ns. map (fold_of Sum t slots) (lists_by (rows_below (length numbers.of_rows.items)) ns groups)) same
+    ∙ ap (λ n. map (fold_of Sum t slots) (lists_by (rows_below (length numbers.of_rows.items)) numbers.of_rows.items n)) known
+    ∙ ap (map (fold_of Sum t slots)) (sym (pairs_lists (rows_below (length numbers.of_rows.items)) numbers.of_rows.items numbers.first.items))
+
+-- and so are counts
+pub counts_numbered : (numbers : RowNumbers) (groups : ℕ) (given : List ℕ) → given ≡ numbers.of_rows.items → groups ≡ length numbers.first.items →
+    map (λ n. Num (pos n)) (counts_by given groups) ≡ map rows_fold (lists_in (numbered numbers))
+counts_numbered numbers groups given same known =
+    let rows = rows_below (length numbers.of_rows.items) in
+    ap (λ ns. map (λ n. Num (pos n)) (counts_by ns groups)) same
+    ∙ ap (λ n. map (λ n. Num (pos n)) (counts_by numbers.of_rows.items n)) known
+    ∙ counts_folded rows numbers.of_rows.items (length numbers.first.items) (sym (length-range_with_len 0 (length numbers.of_rows.items)))
+    ∙ ap (map rows_fold) (sym (pairs_lists rows numbers.of_rows.items numbers.first.items))

@@ -4,4 +4,5 @@ pub mod Folds
 pub mod Lists
 pub mod Method
 pub mod Numbered
+pub mod Over
 pub mod Picks

@@ -21,6 +21,12 @@ abbrev pub goes_by_parts : GroupByMethod → Bool
 goes_by_parts NUnique = false
 goes_by_parts _ = true
 
+-- whether what is made of the rows of a group can be made from the number of each row's group alone, in one pass
+abbrev pub goes_by_numbers : GroupByMethod → Bool
+goes_by_numbers Sum = true
+goes_by_numbers (Count all) = all
+goes_by_numbers _ = false
+
 -- the word of a method
 abbrev pub method_word : GroupByMethod → List ℕ
 method_word Min = codes "min"

@@ -11,13 +11,15 @@ ghost use Rattle.gb_flat_series.specs.FlatSeries.{column_of};
 ghost use Rattle.gb_series.specs.Series.{value_of};
 ghost use Rattle.gb_agg.specs.Extremes.{AreExtremes};
 ghost use Rattle.gb_agg.specs.Folds.{AreGroupsOf, extreme, fold_column, fold_in, folded, sums_of_column, unfit_of};
-ghost use Rattle.gb_agg.specs.Method.{goes_by_parts, method_of};
+ghost use Rattle.gb_agg.specs.Method.{goes_by_numbers, goes_by_parts, method_of};
+ghost use Rattle.gb_paths.specs.Numbering.{numbered};
 
 use crate::extremes::extreme_rows;
-use crate::group_sums::GroupSums;
+use crate::group_sums::{GroupSums, SumGroups};
 use crate::lists::{row_lists, slot_lists};
 use crate::method::GroupByMethod;
 use crate::number_fold::{RowCount, ValidCount, fold_groups};
+use crate::numbered_sums::numbered_counts;
 use crate::row_pick::{FirstRow, LastRow, RowPick, pick_groups, take_picks};
 use gb_base::error::{Operation, PolarsError, PolarsResult};
 use gb_base::nullable_idx::IdxSize;
@@ -27,6 +29,7 @@ use gb_cols::series_trait::SeriesTrait;
 use gb_flat_series::series::FlatSeries;
 use gb_flat_series::{map_sums, of_column};
 use gb_groups::view::GroupsView;
+use gb_paths::row_numbers::RowNumbers;
 use gb_series::into_series::IntoSeries;
 use gb_series::series::Series;
 use std::alloc::Global;
@@ -60,6 +63,38 @@ pub(crate) fn aggregate(
         }
         GroupByMethod::Implode => slot_lists(column, groups),
     }
+}
+
+/// The same from the number of each row's group, by a method that needs no list of a group's rows.
+pub fn aggregate_numbered(
+    column: &Series,
+    method: GroupByMethod,
+    numbers: &RowNumbers,
+) -> PolarsResult<Series>
+    requires goes { goes_by_numbers method ≡ true }
+    requires rows { length numbers.now.of_rows.items ≡ length (value_of column.now).slots }
+    ensures fits { OnOk result (unfit_of (method_of method) (value_of column.now) ≡ None) }
+    ensures ok { IfOk result (λ s. value_of s
+        ≡ folded (method_of method) (value_of column.now) (lists_in (numbered numbers.now))) }
+    ensures err { IfErr result (λ e.
+        Explains e (unfit_of (method_of method) (value_of column.now))) }
+{
+    match method {
+        GroupByMethod::Sum => column_sums(column, numbers),
+        GroupByMethod::Count { include_nulls: _ } => counted_numbers(column, numbers),
+        _ => unreachable!(),
+    }
+}
+
+// The number of rows of each group, under the column's name.
+fn counted_numbers(column: &Series, numbers: &RowNumbers) -> PolarsResult<Series>
+    ensures ok { IfOk result (λ s. value_of s
+        ≡ folded (Count true) (value_of column.now) (lists_in (numbered numbers.now))) }
+    ensures err { IfErr result IsNoMemory }
+{
+    let name = column.name().try_clone()?;
+    let counts = numbered_counts(column.allocator(), name, numbers)?;
+    Ok(counts.into_series())
 }
 
 // The slots at the rows that are picked.
@@ -153,9 +188,9 @@ fn column_extremes(column: &Series, greatest: bool, groups: &GroupsView<'_>) -> 
 }
 
 // The sums of a column, None where its type has none.
-fn series_sums(column: &Series, groups: &GroupsView<'_>) -> PolarsResult<Option<Series>>
-    requires { AreGroupsOf (value_of column.now) groups.now }
-    ensures ok { let lists = lists_in groups.now in
+fn series_sums<G: SumGroups>(column: &Series, groups: &G) -> PolarsResult<Option<Series>>
+    requires { G.suits groups.now (length (value_of column.now).slots) }
+    ensures ok { let lists = lists_in (G.grouping groups.now) in
         IfOk result (λ sums. option_map value_of sums
         ≡ sums_of_column (value_of column.now).name (value_of column.now) lists) }
     ensures err { IfErr result IsNoMemory }
@@ -183,13 +218,13 @@ fn series_sums(column: &Series, groups: &GroupsView<'_>) -> PolarsResult<Option<
 }
 
 // The sums of a column of a flat type, None where its type has none.
-fn flat_sums(
+fn flat_sums<G: SumGroups>(
     name: PlSmallStr,
     column: &FlatSeries,
-    groups: &GroupsView<'_>,
+    groups: &G,
 ) -> PolarsResult<Option<FlatSeries>>
-    requires { AreGroupsOf (column_of column.now) groups.now }
-    ensures ok { let lists = lists_in groups.now in
+    requires { G.suits groups.now (length (column_of column.now).slots) }
+    ensures ok { let lists = lists_in (G.grouping groups.now) in
         IfOk result (λ sums. option_map column_of sums
         ≡ sums_of_column (name_of name) (column_of column.now) lists) }
     ensures err { IfErr result IsNoMemory }
@@ -198,11 +233,11 @@ fn flat_sums(
 }
 
 // The sums of a column, unless its type has none.
-fn column_sums(column: &Series, groups: &GroupsView<'_>) -> PolarsResult<Series>
-    requires groups { AreGroupsOf (value_of column.now) groups.now }
+fn column_sums<G: SumGroups>(column: &Series, groups: &G) -> PolarsResult<Series>
+    requires { G.suits groups.now (length (value_of column.now).slots) }
     ensures fits { OnOk result (has_sum (value_of column.now).dtype ≡ true) }
     ensures ok { IfOk result (λ s. value_of s
-        ≡ folded Sum (value_of column.now) (lists_in groups.now)) }
+        ≡ folded Sum (value_of column.now) (lists_in (G.grouping groups.now))) }
     ensures err { IfErr result (λ e. Explains e (unfit_of Sum (value_of column.now))) }
 {
     match series_sums(column, groups)? {

@@ -1,12 +1,12 @@
 //! The sums of a column over the rows of each group, by what its values are.
 
-ghost use Rattle.std.specs.Prelude.{◌≡◌, option_map, IfOk, IfErr};
+ghost use Rattle.std.specs.Prelude.{◌≡◌, ℕ, ◌<◌, All, length, option_map, IfOk, IfErr};
 ghost use Rattle.gb_defs.specs.Column.{ColumnValue};
 ghost use Rattle.gb_defs.specs.ColumnType.{Boolean, Flat, uint32};
 ghost use Rattle.gb_defs.specs.Fold.{Sum};
-ghost use Rattle.gb_defs.specs.Groups.{lists_in};
+ghost use Rattle.gb_defs.specs.Groups.{AreMembers, Grouping, HasRowNumbers, lists_in};
 ghost use Rattle.gb_base.specs.PlSmallStr.{IsNoMemory, name_of};
-ghost use Rattle.gb_agg.specs.Folds.{AreGroupsOf, fold_column, fold_in, sums_of_column};
+ghost use Rattle.gb_agg.specs.Folds.{fold_column, fold_in, sums_of_column};
 
 use crate::number_fold::{FlagSum, SumOf, fold_groups};
 use gb_base::error::PolarsResult;
@@ -23,6 +23,56 @@ use gb_logical::logical::{Logical, LogicalKind};
 use gb_numbers::numeric::PolarsNumericType;
 use gb_values::primitive::NumberValues;
 
+/// Groups that a column of numbers, or of flags, is summed over.
+pub trait SumGroups {
+    // The groups.
+    ghost grouping: { Self → Grouping };
+
+    // Their rows are among so many.
+    ghost suits: { Self → ℕ → Type 0 };
+
+    /// The sum over the rows of each group, in the type of the numbers.
+    fn number_sums<T: PolarsNumericType>(
+        &self,
+        name: PlSmallStr,
+        column: &ChunkedArray<NumberValues<T>>,
+    ) -> PolarsResult<ChunkedArray<NumberValues<T>>>
+        requires { suits self.now (length column.now.slots) }
+        ensures typed { column.now.dtype ≡ Flat T.Native.flat }
+        ensures ok { let lists = lists_in (grouping self.now) in IfOk result (λ c.
+            c ≡ fold_column (name_of name) (Flat T.Native.flat) (fold_in Sum column.now) lists) }
+        ensures err { IfErr result IsNoMemory };
+
+    /// How many flags are true at the rows of each group.
+    fn flag_sums(&self, name: PlSmallStr, column: &BooleanChunked) -> PolarsResult<UInt32Chunked>
+        requires { suits self.now (length column.now.slots) }
+        ensures typed { column.now.dtype ≡ Flat Boolean }
+        ensures ok { let lists = lists_in (grouping self.now) in IfOk result (λ c.
+            c ≡ fold_column (name_of name) uint32 (fold_in Sum column.now) lists) }
+        ensures err { IfErr result IsNoMemory };
+}
+
+impl<'a> SumGroups for GroupsView<'a> {
+    ghost grouping = { λ groups. groups };
+
+    ghost suits = { λ groups n. All (AreMembers n) (lists_in groups)
+        × HasRowNumbers (length groups.pairs) };
+
+    fn number_sums<T: PolarsNumericType>(
+        &self,
+        name: PlSmallStr,
+        column: &ChunkedArray<NumberValues<T>>,
+    ) -> PolarsResult<ChunkedArray<NumberValues<T>>> {
+        let alloc = column.allocator();
+        fold_groups(alloc, name, &SumOf::new(column), self)
+    }
+
+    fn flag_sums(&self, name: PlSmallStr, column: &BooleanChunked) -> PolarsResult<UInt32Chunked> {
+        let alloc = column.allocator();
+        fold_groups(alloc, name, &FlagSum::new(column), self)
+    }
+}
+
 /// A column that may have sums over groups.
 pub trait GroupSums {
     /// A column of sums.
@@ -32,13 +82,13 @@ pub trait GroupSums {
     ghost column: { Self → ColumnValue };
 
     /// The sum over the rows of each group, None where the column's type has no sums.
-    fn group_sums(
+    fn group_sums<G: SumGroups>(
         &self,
         name: PlSmallStr,
-        groups: &GroupsView<'_>,
+        groups: &G,
     ) -> PolarsResult<Option<Self::Sums>>
-        requires { AreGroupsOf (column self.now) groups.now }
-        ensures ok { let lists = lists_in groups.now in
+        requires { G.suits groups.now (length (column self.now).slots) }
+        ensures ok { let lists = lists_in (G.grouping groups.now) in
             IfOk result (λ sums. option_map Self.Sums.value sums
             ≡ sums_of_column (name_of name) (column self.now) lists) }
         ensures err { IfErr result IsNoMemory };
@@ -49,41 +99,9 @@ impl<T: PolarsNumericType> GroupSums for ChunkedArray<NumberValues<T>> {
 
     ghost column = { λ c. c };
 
-    fn group_sums(&self, name: PlSmallStr, groups: &GroupsView<'_>) -> PolarsResult<Option<Self>> {
-        Ok(Some(number_sums(name, self, groups)?))
+    fn group_sums<G: SumGroups>(&self, name: PlSmallStr, groups: &G) -> PolarsResult<Option<Self>> {
+        Ok(Some(groups.number_sums(name, self)?))
     }
-}
-
-// The sums of a column of numbers, in its type.
-fn number_sums<T: PolarsNumericType>(
-    name: PlSmallStr,
-    column: &ChunkedArray<NumberValues<T>>,
-    groups: &GroupsView<'_>,
-) -> PolarsResult<ChunkedArray<NumberValues<T>>>
-    requires { AreGroupsOf column.now groups.now }
-    ensures typed { column.now.dtype ≡ Flat T.Native.flat }
-    ensures ok { IfOk result (λ c. c ≡ fold_column (name_of name) (Flat T.Native.flat)
-        (fold_in Sum column.now) (lists_in groups.now)) }
-    ensures err { IfErr result IsNoMemory }
-{
-    let alloc = column.allocator();
-    fold_groups(alloc, name, &SumOf::new(column), groups)
-}
-
-// How many flags of a column are true, as `number_sums`.
-fn flag_sums(
-    name: PlSmallStr,
-    column: &BooleanChunked,
-    groups: &GroupsView<'_>,
-) -> PolarsResult<UInt32Chunked>
-    requires { AreGroupsOf column.now groups.now }
-    ensures typed { column.now.dtype ≡ Flat Boolean }
-    ensures ok { IfOk result (λ c. c ≡ fold_column (name_of name) uint32
-        (fold_in Sum column.now) (lists_in groups.now)) }
-    ensures err { IfErr result IsNoMemory }
-{
-    let alloc = column.allocator();
-    fold_groups(alloc, name, &FlagSum::new(column), groups)
 }
 
 // How many flags are true is a number of 32 bits.
@@ -92,12 +110,12 @@ impl GroupSums for BooleanChunked {
 
     ghost column = { λ c. c };
 
-    fn group_sums(
+    fn group_sums<G: SumGroups>(
         &self,
         name: PlSmallStr,
-        groups: &GroupsView<'_>,
+        groups: &G,
     ) -> PolarsResult<Option<UInt32Chunked>> {
-        Ok(Some(flag_sums(name, self, groups)?))
+        Ok(Some(groups.flag_sums(name, self)?))
     }
 }
 
@@ -106,12 +124,12 @@ impl<K: LogicalKind> GroupSums for Logical<K> {
 
     ghost column = { λ c. c };
 
-    fn group_sums(&self, name: PlSmallStr, groups: &GroupsView<'_>) -> PolarsResult<Option<Self>> {
+    fn group_sums<G: SumGroups>(&self, name: PlSmallStr, groups: &G) -> PolarsResult<Option<Self>> {
         let kind = self.kind();
         if !kind.has_sum() {
             return Ok(None);
         }
-        let sums = number_sums(name, self.physical(), groups)?;
+        let sums = groups.number_sums(name, self.physical())?;
         Ok(Some(Logical::with_kind(sums, kind)))
     }
 }
@@ -121,10 +139,10 @@ impl GroupSums for NullChunked {
 
     ghost column = { λ c. c };
 
-    fn group_sums(
+    fn group_sums<G: SumGroups>(
         &self,
         _name: PlSmallStr,
-        _groups: &GroupsView<'_>,
+        _groups: &G,
     ) -> PolarsResult<Option<Self>> {
         // The call tells the column's type.
         let _ = self.allocator();
@@ -137,10 +155,10 @@ impl GroupSums for StringChunked {
 
     ghost column = { λ c. c };
 
-    fn group_sums(
+    fn group_sums<G: SumGroups>(
         &self,
         _name: PlSmallStr,
-        _groups: &GroupsView<'_>,
+        _groups: &G,
     ) -> PolarsResult<Option<Self>> {
         let _ = self.allocator();
         Ok(None)
@@ -152,10 +170,10 @@ impl GroupSums for BinaryChunked {
 
     ghost column = { λ c. c };
 
-    fn group_sums(
+    fn group_sums<G: SumGroups>(
         &self,
         _name: PlSmallStr,
-        _groups: &GroupsView<'_>,
+        _groups: &G,
     ) -> PolarsResult<Option<Self>> {
         let _ = self.allocator();
         Ok(None)
@@ -167,10 +185,10 @@ impl GroupSums for BinaryOffsetChunked {
 
     ghost column = { λ c. c };
 
-    fn group_sums(
+    fn group_sums<G: SumGroups>(
         &self,
         _name: PlSmallStr,
-        _groups: &GroupsView<'_>,
+        _groups: &G,
     ) -> PolarsResult<Option<Self>> {
         let _ = self.allocator();
         Ok(None)
@@ -182,10 +200,10 @@ impl GroupSums for CategoricalChunked {
 
     ghost column = { λ c. c };
 
-    fn group_sums(
+    fn group_sums<G: SumGroups>(
         &self,
         _name: PlSmallStr,
-        _groups: &GroupsView<'_>,
+        _groups: &G,
     ) -> PolarsResult<Option<Self>> {
         let _ = self.get_rev_map();
         Ok(None)

@@ -12,6 +12,8 @@ mod group_sums;
 pub mod lists;
 pub mod method;
 pub mod number_fold;
+mod numbered_sums;
+pub mod over;
 pub mod row_pick;
 pub mod series_agg;
 pub mod slot_fold;

@@ -36,12 +36,24 @@ pub enum GroupByMethod {
 impl GroupByMethod {
     ghost use Rattle.std.specs.Prelude.{not};
     ghost use Rattle.gb_defs.specs.Fault.{is_groups};
+    ghost use Rattle.gb_agg.specs.Method.{goes_by_numbers};
 
     /// Whether it is made of a column's slots. The rows are those of the groups.
     pub fn needs_column(&self) -> bool
         ensures { result ≡ not (is_groups (method_of self.now)) }
     {
         !matches!(self, GroupByMethod::Groups)
+    }
+
+    /// Whether it can be made from the number of each row's group, with no list of a group's rows.
+    pub fn goes_by_numbers(&self) -> bool
+        ensures { result ≡ goes_by_numbers self.now }
+    {
+        match self {
+            GroupByMethod::Sum => true,
+            GroupByMethod::Count { include_nulls } => *include_nulls,
+            _ => false,
+        }
     }
 }
 

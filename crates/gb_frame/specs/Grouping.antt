@@ -1,5 +1,5 @@
 -- The columns of an answer over the groups that were found.
-use Rattle.std.specs.Prelude.{◌≡◌, ℕ, ◌<◌, All, List, [], ◌∷◌, ◌++◌, length, map, Option, None, false, is_none, if◌then◌else◌}
+use Rattle.std.specs.Prelude.{◌≡◌, ℕ, ◌<◌, All, List, [], ◌∷◌, ◌++◌, length, map, Option, None, false, true, is_none, if◌then◌else◌}
 use Rattle.gb_defs.specs.Column.{ColumnValue, Content, Frame, IsFrame, content, find_column, taken}
 use Rattle.gb_defs.specs.Fold.{Method}
 use Rattle.gb_defs.specs.Answer.{aggregated}
@@ -10,7 +10,11 @@ use Rattle.gb_series.specs.Frame.{missing_column}
 use Rattle.gb_series.specs.Series.{value_of}
 use Rattle.gb_series.specs.declared.series.Series.{Series}
 use Rattle.gb_frame.specs.declared.agg.Agg.{Agg}
-use Rattle.gb_agg.specs.Method.{method_of}
+use Rattle.gb_paths.specs.declared.classes.Classes.{Classes}
+use Rattle.gb_paths.specs.declared.classes.Classes.TheVariants as classes
+use Rattle.gb_agg.specs.Method.{goes_by_numbers, method_of}
+use Rattle.gb_agg.specs.declared.over.Over.{Over}
+use Rattle.gb_agg.specs.declared.over.Over.TheVariants as over
 
 -- what columns hold
 abbrev pub contents_of : List Series → List Content
@@ -49,6 +53,11 @@ abbrev pub HasHeight : Frame → ℕ → Type 0
 HasHeight [] height = Unit {0}
 HasHeight (c ∷ cs) height = length c.slots ≡ height
 
+-- numbers are those of the rows of a frame
+abbrev pub NumberRowsIn : Frame → Over → Type 0
+NumberRowsIn frame (over.Groups groups) = Unit {0}
+NumberRowsIn frame (over.Numbers numbers) = HasHeight frame (length numbers.now.of_rows.items)
+
 -- as many rows as a frame has, or where it has no column as many as there may be
 abbrev pub height_in : Frame → ℕ
 height_in [] = 4294967295
@@ -66,3 +75,8 @@ pub record IsGrouping (frame keys : Frame) (g : Grouping) : Type 0 where
   pub within : AreGroupsIn frame g
   pub some : 0 < length keys
   pub firsts : All (HasRows (firsts_in g)) keys
+
+-- where classes are told by numbers, each aggregate can be made of these, which are those of the rows of a frame
+abbrev pub AreMadeOver : Frame → List Agg → Classes → Type 0
+AreMadeOver frame aggs (classes.Groups groups) = Unit {0}
+AreMadeOver frame aggs (classes.Numbers numbers) = All (λ agg. goes_by_numbers agg.method ≡ true) aggs × HasHeight frame (length numbers.of_rows.items)

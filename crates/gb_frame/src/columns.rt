@@ -9,13 +9,13 @@ ghost use Rattle.gb_defs.specs.Fault.{missing_fault, unfit_fault};
 ghost use Rattle.gb_defs.specs.Groups.{lists_in};
 ghost use Rattle.gb_rows.specs.Lent.{keys_in};
 ghost use Rattle.gb_series.specs.Series.{value_of};
+ghost use Rattle.gb_agg.specs.Over.{Takes, grouping_over};
 ghost use Rattle.gb_frame.specs.Agg.{agg_of, aggs_of};
-ghost use Rattle.gb_frame.specs.Grouping.{AreGroupsIn, HasColumn, HasRows, aggregates_over, contents_of, firsts_in, unfit_cause};
+ghost use Rattle.gb_frame.specs.Grouping.{AreGroupsIn, HasColumn, HasRows, NumberRowsIn, aggregates_over, contents_of, firsts_in, unfit_cause};
 
 use crate::agg::Agg;
-use gb_agg::by_workers::aggregate_all;
-use gb_agg::lists::row_lists;
 use gb_agg::method::fmt_group_by_column;
+use gb_agg::over::{Over, aggregate_over};
 use gb_base::error::PolarsResult;
 use gb_base::nullable_idx::IdxSize;
 use gb_base::pool::Pool;
@@ -61,19 +61,21 @@ pub(crate) fn aggregates<R: Threads + Sync>(
     alloc: Global,
     frame: &DataFrame,
     aggs: &[Agg],
-    groups: &GroupsView<'_>,
+    over: &Over<'_>,
     pool: &Pool,
 ) -> PolarsResult<Vec<Series>>
-    requires groups { AreGroupsIn frame.now groups.now }
+    requires groups { AreGroupsIn frame.now (grouping_over over.now) }
+    requires takes { All (λ agg. Takes over.now agg.method) aggs.now }
+    requires rows { NumberRowsIn frame.now over.now }
     requires found { missing_fault frame.now (aggs_of aggs.now) ≡ None }
     ensures ok { IfOk result (λ columns. contents_of columns.items
-        ≡ aggregates_over frame.now (aggs_of aggs.now) (lists_in groups.now)) }
+        ≡ aggregates_over frame.now (aggs_of aggs.now) (lists_in (grouping_over over.now))) }
     ensures fits { OnOk result (unfit_fault frame.now (aggs_of aggs.now) ≡ None) }
     ensures err { IfErr result (λ e. Explains e (unfit_fault frame.now (aggs_of aggs.now))) }
 {
     let mut columns = Vec::with_capacity(alloc, aggs.len())?;
     for agg in aggs {
-        columns.push(agg_column(rt, alloc, frame, agg, groups, pool)?)?;
+        columns.push(agg_column(rt, alloc, frame, agg, over, pool)?)?;
     }
     Ok(columns)
 }
@@ -84,21 +86,23 @@ fn agg_column<R: Threads + Sync>(
     alloc: Global,
     frame: &DataFrame,
     agg: &Agg,
-    groups: &GroupsView<'_>,
+    over: &Over<'_>,
     pool: &Pool,
 ) -> PolarsResult<Series>
-    requires groups { AreGroupsIn frame.now groups.now }
+    requires groups { AreGroupsIn frame.now (grouping_over over.now) }
+    requires takes { Takes over.now agg.now.method }
+    requires rows { NumberRowsIn frame.now over.now }
     requires found { HasColumn frame.now agg.now }
     ensures ok { IfOk result (λ s. content (value_of s) ≡ aggregated (agg_of agg.now)
-        (find_column frame.now (name_of agg.now.column)) (lists_in groups.now)) }
+        (find_column frame.now (name_of agg.now.column)) (lists_in (grouping_over over.now))) }
     ensures fits { OnOk result (unfit_cause frame.now agg.now ≡ None) }
     ensures err { IfErr result (λ e. Explains e (unfit_cause frame.now agg.now)) }
 {
     if agg.method.needs_column() {
-        return found_aggregate(rt, alloc, frame, agg, groups, pool);
+        return found_aggregate(rt, alloc, frame, agg, over, pool);
     }
     let name = fmt_group_by_column(alloc, agg.column.as_str(), agg.method)?;
-    row_lists(alloc, name, groups)
+    over.row_lists(alloc, name)
 }
 
 // The aggregate of a column that the frame has.
@@ -107,19 +111,21 @@ fn found_aggregate<R: Threads + Sync>(
     alloc: Global,
     frame: &DataFrame,
     agg: &Agg,
-    groups: &GroupsView<'_>,
+    over: &Over<'_>,
     pool: &Pool,
 ) -> PolarsResult<Series>
-    requires groups { AreGroupsIn frame.now groups.now }
+    requires groups { AreGroupsIn frame.now (grouping_over over.now) }
+    requires takes { Takes over.now agg.now.method }
+    requires rows { NumberRowsIn frame.now over.now }
     requires found { is_none (find_column frame.now (name_of agg.now.column)) ≡ false }
     ensures ok { IfOk result (λ s. content (value_of s) ≡ aggregated (agg_of agg.now)
-        (find_column frame.now (name_of agg.now.column)) (lists_in groups.now)) }
+        (find_column frame.now (name_of agg.now.column)) (lists_in (grouping_over over.now))) }
     ensures fits { OnOk result (unfit_cause frame.now agg.now ≡ None) }
     ensures err { IfErr result (λ e. Explains e (unfit_cause frame.now agg.now)) }
 {
     let name = agg.column.as_str();
     let column = frame.column(name)?;
-    let mut folded = aggregate_all(rt, alloc, column, agg.method, groups, pool)?;
+    let mut folded = aggregate_over(rt, alloc, column, agg.method, over, pool)?;
     folded.rename(fmt_group_by_column(alloc, name, agg.method)?);
     Ok(folded)
 }

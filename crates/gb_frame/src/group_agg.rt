@@ -1,18 +1,19 @@
 //! From a frame and keys to the frame of the groups: one row for each class of rows whose keys agree.
 
-ghost use Rattle.std.specs.Prelude.{◌≡◌, ◌<◌, None, Ok, length, map, true, IfErr, IfOk, OnOk};
+ghost use Rattle.std.specs.Prelude.{◌≡◌, ◌<◌, All, None, Ok, length, map, true, IfErr, IfOk, OnOk};
 ghost use Rattle.gb_base.specs.PolarsError.{Explains};
 ghost use Rattle.gb_defs.specs.Column.{IsFrame, content, frame_height};
 ghost use Rattle.gb_defs.specs.Fault.{fault, missing_fault, unfit_fault};
 ghost use Rattle.gb_defs.specs.Groups.{HasRowNumbers, lists_in};
 ghost use Rattle.gb_defs.specs.Outcome.{grouped_by};
-ghost use Rattle.gb_groups.specs.GroupsType.{groups_of};
+ghost use Rattle.gb_paths.specs.Classes.{grouping_of};
+ghost use Rattle.gb_agg.specs.Method.{goes_by_numbers};
 ghost use Rattle.gb_paths.specs.Tuples.{trace_value};
 ghost use Rattle.gb_rows.specs.Lent.{keys_in};
 ghost use Rattle.gb_rows.specs.Rows.{AreOfOneLength};
 ghost use Rattle.gb_frame.specs.Agg.{aggs_of};
 ghost use Rattle.gb_frame.specs.Answers.{IsAnswer, IsAnswerOver, IsTracedAnswer};
-ghost use Rattle.gb_frame.specs.Grouping.{HasHeight, IsGrouping, answer_parts, contents_of, firsts_in};
+ghost use Rattle.gb_frame.specs.Grouping.{AreGroupsIn, AreMadeOver, HasHeight, IsGrouping, aggregates_over, answer_parts, contents_of, firsts_in};
 ghost use Rattle.gb_frame.specs.Refusals.{aggs_fault};
 
 use crate::agg::Agg;
@@ -20,12 +21,13 @@ use crate::checks::check_columns;
 use crate::columns::{aggregates, keys_at};
 use crate::key::{fit_keys, lend, lent_keys};
 use crate::options::GroupOptions;
+use gb_agg::over::Over;
 use gb_base::device::Gate;
 use gb_base::error::PolarsResult;
 use gb_base::pool::Pool;
 use gb_cols::series_trait::SeriesTrait;
-use gb_groups::groups_type::GroupsType;
-use gb_paths::by_keys::group_by_detected;
+use gb_paths::by_keys::classes_by_detected;
+use gb_paths::classes::Classes;
 use gb_paths::trace::Trace;
 use gb_series::frame::DataFrame;
 use gb_series::series::Series;
@@ -109,34 +111,83 @@ fn answer_over<R: Threads + Sync, G: Gate + Sync>(
         multithreaded,
         sorted,
     } = options;
-    let (groups, path) = group_by_detected(rt, keys, multithreaded, sorted, pool, gate)?;
-    let trace = Trace::new(path, keys[0].len(), groups.len());
-    let columns = answer_columns(rt, alloc, frame, keys, aggs, groups, pool)?;
+    let by_numbers = go_by_numbers(aggs);
+    let (classes, path) = classes_by_detected(
+        rt,
+        keys,
+        multithreaded,
+        sorted,
+        by_numbers,
+        pool,
+        gate,
+    )?;
+    let trace = Trace::new(path, keys[0].len(), classes.len());
+    let columns = answer_columns(rt, alloc, frame, keys, aggs, classes, pool)?;
     let answer = DataFrame::new(columns)?;
     Ok((answer, trace))
 }
 
-// The columns of the answer. The first rows are moved out of the groups, so the aggregates are made first.
+// Whether each aggregate can be made from the number of each row's group.
+fn go_by_numbers(aggs: &[Agg]) -> bool
+    ensures { result ≡ true → All (λ agg. goes_by_numbers agg.method ≡ true) aggs.now }
+{
+    for agg in aggs {
+        if !agg.method.goes_by_numbers() {
+            return false;
+        }
+    }
+    true
+}
+
+// The columns of the answer. The first rows are moved out of the classes, so the aggregates are made first.
 fn answer_columns<R: Threads + Sync>(
     rt: &R,
     alloc: Global,
     frame: &DataFrame,
     keys: &[&Series],
     aggs: &[Agg],
-    groups: GroupsType,
+    classes: Classes,
     pool: &Pool,
 ) -> PolarsResult<Vec<Series>>
-    requires grouped { IsGrouping frame.now (keys_in keys.now) (groups_of groups) }
+    requires grouped { IsGrouping frame.now (keys_in keys.now) (grouping_of classes) }
+    requires takes { AreMadeOver frame.now aggs.now classes }
     requires found { missing_fault frame.now (aggs_of aggs.now) ≡ None }
     ensures ok { IfOk result (λ columns. contents_of columns.items
         ≡ answer_parts frame.now (keys_in keys.now) (aggs_of aggs.now)
-        (firsts_in (groups_of groups)) (lists_in (groups_of groups))) }
+        (firsts_in (grouping_of classes)) (lists_in (grouping_of classes))) }
     ensures fits { OnOk result (unfit_fault frame.now (aggs_of aggs.now) ≡ None) }
     ensures err { IfErr result (λ e. Explains e (unfit_fault frame.now (aggs_of aggs.now))) }
 {
-    let mut folded = aggregates(rt, alloc, frame, aggs, &groups.view(), pool)?;
-    let firsts = groups.take_group_firsts()?;
+    let mut folded = class_aggregates(rt, alloc, frame, aggs, &classes, pool)?;
+    let firsts = classes.take_firsts()?;
     let mut columns = keys_at(alloc, keys, &firsts)?;
     columns.append(&mut folded)?;
     Ok(columns)
+}
+
+// The aggregates over classes.
+fn class_aggregates<R: Threads + Sync>(
+    rt: &R,
+    alloc: Global,
+    frame: &DataFrame,
+    aggs: &[Agg],
+    classes: &Classes,
+    pool: &Pool,
+) -> PolarsResult<Vec<Series>>
+    requires groups { AreGroupsIn frame.now (grouping_of classes.now) }
+    requires takes { AreMadeOver frame.now aggs.now classes.now }
+    requires found { missing_fault frame.now (aggs_of aggs.now) ≡ None }
+    ensures ok { IfOk result (λ columns. contents_of columns.items
+        ≡ aggregates_over frame.now (aggs_of aggs.now) (lists_in (grouping_of classes.now))) }
+    ensures fits { OnOk result (unfit_fault frame.now (aggs_of aggs.now) ≡ None) }
+    ensures err { IfErr result (λ e. Explains e (unfit_fault frame.now (aggs_of aggs.now))) }
+{
+    match classes {
+        Classes::Groups(groups) => {
+            aggregates(rt, alloc, frame, aggs, &Over::Groups(groups.view()), pool)
+        }
+        Classes::Numbers(numbers) => {
+            aggregates(rt, alloc, frame, aggs, &Over::Numbers(numbers), pool)
+        }
+    }
 }

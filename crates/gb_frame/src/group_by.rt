@@ -9,6 +9,7 @@ use crate::columns::{aggregates, first_rows, keys_at};
 use crate::key::{Key, lend};
 use crate::selection::{named_aggs, other_aggs};
 use gb_agg::method::GroupByMethod;
+use gb_agg::over::Over;
 use gb_base::error::PolarsResult;
 use gb_base::pool::Pool;
 use gb_base::small_str::PlSmallStr;
@@ -127,7 +128,8 @@ impl<'a> GroupBy<'a> {
         ensures { Answers self.now (aggs_of aggs.now) result }
     {
         check_columns(self.frame, aggs)?;
-        let mut folded = aggregates(rt, alloc, self.frame, aggs, &self.groups.view(), pool)?;
+        let over = Over::Groups(self.groups.view());
+        let mut folded = aggregates(rt, alloc, self.frame, aggs, &over, pool)?;
         let mut columns = self.keys(alloc)?;
         columns.append(&mut folded)?;
         DataFrame::new(columns)

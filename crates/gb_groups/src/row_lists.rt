@@ -101,8 +101,8 @@ pub fn row_lists<M: Members>(
     Ok(lists)
 }
 
-// How many rows each group has.
-fn row_counts(alloc: Global, numbers: &[u32], groups: usize) -> Result<Vec<IdxSize>, AllocError>
+/// How many rows each group has.
+pub fn row_counts(alloc: Global, numbers: &[u32], groups: usize) -> Result<Vec<IdxSize>, AllocError>
     requires few { length numbers.now < 2 ^ 32 }
     requires known { All (λ number. number < groups) numbers.now }
     ensures { IfOk result (λ counts. counts.items ≡ counts_by numbers.now groups) }

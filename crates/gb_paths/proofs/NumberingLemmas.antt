@@ -11,8 +11,10 @@ use Rattle.std.proofs.lemmas.List.Kept.{AllPairs-from_increasing, IsStrictlyIncr
 use Rattle.std.proofs.lemmas.List.Folds.{list_any-append}
 use Rattle.gb_defs.specs.Classes.{class, firsts, groups, is_first}
 use Rattle.gb_defs.proofs.ClassesLemmas.{all_append, all_filter, filter_agree_on, firsts_push}
+use Rattle.gb_defs.specs.Groups.{first_of, rows_of_pair}
 use Rattle.gb_groups.specs.Numbers.{lists_by, rows_of}
 use Rattle.gb_groups.proofs.NumberLemmas.{map_range_same, rows_by}
+use Rattle.gb_paths.specs.Numbers.{pairs_by}
 use Rattle.gb_paths.specs.Numbering.{AreNumbersOf, AreParts, number_in}
 
 -- ---- first rows of rows and of later ones
@@ -326,6 +328,14 @@ seconds_in_pairs [] [] same = refl
 seconds_in_pairs [] (x ∷ xs) same = absurd (omega (arith, same))
 seconds_in_pairs (f ∷ fs) [] same = absurd (omega (arith, same))
 seconds_in_pairs (f ∷ fs) (x ∷ xs) same = ap (λ ys. x ∷ ys) (seconds_in_pairs fs xs (omega (arith, same)))
+
+-- the lists of groups by numbers
+pub pairs_lists : (rows numbers first : List ℕ) → map rows_of_pair (pairs_by rows numbers first) ≡ lists_by rows numbers (length first)
+pairs_lists rows numbers first = seconds_in_pairs first (lists_by rows numbers (length first)) (length-map-range_with_len (rows_of rows numbers) 0 (length first))
+
+-- and their first rows
+pub pairs_firsts : (rows numbers first : List ℕ) → map first_of (pairs_by rows numbers first) ≡ first
+pairs_firsts rows numbers first = firsts_in_pairs first (lists_by rows numbers (length first)) (length-map-range_with_len (rows_of rows numbers) 0 (length first))
 
 -- numbers are what is known of the rows of each
 numbers_by : (f : ℕ → ℕ) (groups : ℕ) (rows numbers : List ℕ) → length numbers ≡ length rows → AllByRecursion (λ number. number < groups) numbers

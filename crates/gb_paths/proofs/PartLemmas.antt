@@ -18,6 +18,9 @@ use Rattle.gb_defs.specs.Path.{path_groups}
 use Rattle.gb_defs.specs.Rows.{Rows, same_slot_at}
 use Rattle.gb_defs.proofs.ClassesLemmas.{all_append, rows_below_all}
 use Rattle.gb_defs.proofs.SlotLemmas.{slot_eq_equiv}
+use Rattle.gb_base.specs.Pool.{partitions_of}
+use Rattle.gb_base.specs.declared.pool.Pool.{Pool}
+use Rattle.gb_paths.specs.Classes.{AreNumbersBy}
 use Rattle.gb_paths.specs.Numbering.{AreNumbersAmong, AreNumbersOf, AreParts, firsts_in, number_in, numbered, renumbered}
 use Rattle.gb_paths.specs.Numbers.{pairs_by}
 use Rattle.gb_paths.specs.Tuples.{key_path_value}
@@ -237,20 +240,21 @@ module _ (agree : ℕ → ℕ → Bool) (equiv : IsEquivalence agree) where
 -- ---- groups by numbers
 
 -- rows whose groups are numbered have these groups, on a path in the order of first rows
-pub numbers_path : (rows : Rows) (path : KeyPath) (partitions : ℕ) (numbers : RowNumbers) → AreNumbersAmong rows (rows_below rows.count) numbers →
-    numbered numbers ≡ path_groups (key_path_value path) rows 0 partitions true
-numbers_path rows path partitions numbers are =
+pub numbers_path : (rows : Rows) (path : KeyPath) (pool : Pool) (numbers : RowNumbers) → AreNumbersAmong rows (rows_below rows.count) numbers → AreNumbersBy path rows pool numbers
+numbers_path rows path pool numbers are =
     let agree = same_slot_at rows.slot in
     let all = rows_below rows.count in
     let first = numbers.first.items in
-    let up : IsStrictlyIncreasing all = range_rises 0 rows.count in
     let long : length numbers.of_rows.items ≡ rows.count = ap length are.numbers_are ∙ length-map all (number_in agree first) ∙ length-range_with_len 0 rows.count in
     let pairs : pairs_by (rows_below (length numbers.of_rows.items)) numbers.of_rows.items first ≡ groups agree all =
     ap (λ n. pairs_by (rows_below n) numbers.of_rows.items first) long
     ∙ ap (λ ns. pairs_by all ns first) are.numbers_are
     ∙ ap (λ fs. pairs_by all (map (number_in agree fs) all) fs) are.first_is
-    ∙ groups_numbered agree (on_equiv rows.slot slot_eq_equiv) all up in
-    elim path as (λ p. numbered numbers ≡ path_groups (key_path_value p) rows 0 partitions true) [
-      | keyed.Table ↦ ap (λ ps. idx_groups ps true) pairs
-      | keyed.Threaded ↦ ap (λ ps. idx_groups ps true) pairs
-    ]
+    ∙ groups_numbered agree (on_equiv rows.slot slot_eq_equiv) all (range_rises 0 rows.count) in
+    record {
+      groups = elim path as (λ p. numbered numbers ≡ path_groups (key_path_value p) rows 0 (partitions_of pool) true) [
+        | keyed.Table ↦ ap (λ ps. idx_groups ps true) pairs
+        | keyed.Threaded ↦ ap (λ ps. idx_groups ps true) pairs
+      ];
+      many = long;
+    }

@@ -1,5 +1,5 @@
 -- Rows by their keys, as groups or as numbers.
-use Rattle.std.specs.Prelude.{◌≡◌, true, Option, IfSome}
+use Rattle.std.specs.Prelude.{◌≡◌, ℕ, Bool, true, length}
 use Rattle.gb_defs.specs.Groups.{Grouping}
 use Rattle.gb_defs.specs.Path.{path_groups}
 use Rattle.gb_defs.specs.Rows.{Rows}
@@ -18,6 +18,17 @@ abbrev pub grouping_of : Classes → Grouping
 grouping_of (Groups groups) = groups_of groups
 grouping_of (Numbers numbers) = numbered numbers
 
--- numbers, where there are some, are those of the rows' groups by a path
-abbrev pub HaveNumbers : KeyPath → Rows → Pool → Option RowNumbers → Type 0
-HaveNumbers path rows pool found = IfSome found (λ numbers. numbered numbers ≡ path_groups (key_path_value path) rows 0 (partitions_of pool) true)
+-- numbers were asked for, and each of so many rows has one
+pub record AreAsked (asked : Bool) (rows : ℕ) (numbers : RowNumbers) : Type 0 where
+  pub wanted : asked ≡ true
+  pub many : length numbers.of_rows.items ≡ rows
+
+-- numbers are those of all rows, and come only where they are asked for
+abbrev pub NumberAll : Bool → ℕ → Classes → Type 0
+NumberAll asked rows (Groups groups) = Unit {0}
+NumberAll asked rows (Numbers numbers) = AreAsked asked rows numbers
+
+-- the numbers of the groups of rows by a path
+pub record AreNumbersBy (path : KeyPath) (rows : Rows) (pool : Pool) (numbers : RowNumbers) : Type 0 where
+  pub groups : numbered numbers ≡ path_groups (key_path_value path) rows 0 (partitions_of pool) true
+  pub many : length numbers.of_rows.items ≡ rows.count

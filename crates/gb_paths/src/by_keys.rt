@@ -14,7 +14,7 @@ ghost use Rattle.gb_series.specs.Series.{value_of};
 ghost use Rattle.gb_rows.specs.Lent.{keys_in};
 ghost use Rattle.gb_rows.specs.Rows.{AreOfOneLength};
 ghost use Rattle.gb_rows.specs.Told.{AreToldByRows};
-ghost use Rattle.gb_paths.specs.Classes.{grouping_of};
+ghost use Rattle.gb_paths.specs.Classes.{NumberAll, grouping_of};
 ghost use Rattle.gb_paths.specs.Tuples.{AreClasses, AreFound, IsNullUnlessValued, all_path, path_value, slots_of, tuples_by, tuples_of_bytes};
 
 use crate::classes::{Classes, classes_by_path, classes_of_keys};
@@ -119,6 +119,8 @@ pub fn classes_by_detected<T: Threads + Sync, G: Gate + Sync>(
         AreClasses (agree_by (slots_of keys)) (frame_height keys) (grouping_of made.0).pairs) }
     ensures formed { IfOk result (λ made.
         IsWellFormed (frame_height (keys_in keys.now)) (grouping_of made.0).pairs) }
+    ensures all { let rows = frame_height (keys_in keys.now) in
+        IfOk result (λ made. NumberAll by_numbers rows made.0) }
     ensures err { IfErr result IsNoMemory }
 {
     if keys.len() == 1 {
@@ -142,6 +144,8 @@ fn classes_in_order<T: Threads + Sync, G: Gate + Sync>(
         pool.now (grouping_of made.0) (path_value made.1)) }
     ensures formed { IfOk result (λ made.
         IsWellFormed (length (value_of key.now).slots) (grouping_of made.0).pairs) }
+    ensures all { let rows = length (value_of key.now).slots in
+        IfOk result (λ made. NumberAll by_numbers rows made.0) }
     ensures err { IfErr result IsNoMemory }
 {
     let order = KeyOrder {
@@ -186,6 +190,8 @@ fn classes_several<T: Threads + Sync, G: Gate + Sync>(
         path_value made.1 ≡ all_path (keys_in keys.now) multithreaded pool.now) }
     ensures formed { IfOk result (λ made.
         IsWellFormed (frame_height (keys_in keys.now)) (grouping_of made.0).pairs) }
+    ensures all { let rows = frame_height (keys_in keys.now) in
+        IfOk result (λ made. NumberAll by_numbers rows made.0) }
     ensures err { IfErr result IsNoMemory }
 {
     let alloc = keys[0].allocator();
@@ -271,6 +277,7 @@ fn classes_of_row_bytes<T: Threads + Sync, G: Gate + Sync>(
     ensures told { OnOk result (AreToldByRows (keys_in keys.now)) }
     ensures formed { IfOk result (λ made.
         IsWellFormed (frame_height (keys_in keys.now)) (grouping_of made).pairs) }
+    ensures all { IfOk result (NumberAll by_numbers (frame_height (keys_in keys.now))) }
     ensures err { IfErr result IsNoMemory }
 {
     let single = Pool::new(1, 1, 1, 1, 0);

@@ -1,14 +1,14 @@
 //! Rows by their keys: as groups, or as the number of each row's group, from which what is made of a group's
 //! slots one after another is made without a list of its rows.
 
-ghost use Rattle.std.specs.Prelude.{◌≡◌, ◌≢◌, length, IfErr, IfOk};
-ghost use Rattle.gb_defs.specs.Groups.{HasRowNumbers};
+ghost use Rattle.std.specs.Prelude.{◌≡◌, ◌≢◌, length, map, IfErr, IfOk, IfSome};
+ghost use Rattle.gb_defs.specs.Groups.{HasRowNumbers, first_of};
 ghost use Rattle.gb_defs.specs.Path.{NoValues, kind_of, path_groups};
 ghost use Rattle.gb_base.specs.PlSmallStr.{IsNoMemory};
 ghost use Rattle.gb_base.specs.Pool.{partitions_of, seed_of};
 ghost use Rattle.gb_groups.specs.GroupsType.{groups_of};
 ghost use Rattle.gb_hash.specs.Keys.{key_slots};
-ghost use Rattle.gb_paths.specs.Classes.{HaveNumbers, grouping_of};
+ghost use Rattle.gb_paths.specs.Classes.{AreNumbersBy, NumberAll, grouping_of};
 ghost use Rattle.gb_paths.specs.Keys.{byte_rows, rows_of_keys};
 ghost use Rattle.gb_paths.specs.Numbering.{numbered};
 ghost use Rattle.gb_paths.specs.Tuples.{key_path_value, tuples_on};
@@ -20,6 +20,7 @@ use crate::path::KeyPath;
 use crate::row_numbers::RowNumbers;
 use gb_base::device::Gate;
 use gb_base::error::PolarsResult;
+use gb_base::nullable_idx::IdxSize;
 use gb_base::pool::Pool;
 use gb_cols::binary::BinaryOffsetChunked;
 use gb_groups::groups_type::GroupsType;
@@ -44,6 +45,17 @@ impl Classes {
         match self {
             Classes::Groups(groups) => groups.len(),
             Classes::Numbers(numbers) => numbers.first.len(),
+        }
+    }
+
+    /// The first row of each group.
+    pub fn take_firsts(self) -> PolarsResult<Vec<IdxSize>>
+        ensures ok { IfOk result (λ firsts. firsts.items ≡ map first_of (grouping_of self).pairs) }
+        ensures err { IfErr result IsNoMemory }
+    {
+        match self {
+            Classes::Groups(groups) => groups.take_group_firsts(),
+            Classes::Numbers(numbers) => Ok(numbers.first),
         }
     }
 
@@ -73,6 +85,7 @@ pub(crate) fn classes_by_path<T: Threads + Sync, C: KeyColumn, G: Gate + Sync>(
     requires keyed { kind_of (C.value column.now).dtype ≢ NoValues }
     ensures ok { IfOk result (λ made. grouping_of made
         ≡ tuples_on (key_path_value path) (C.value column.now) sorted pool.now) }
+    ensures all { IfOk result (NumberAll by_numbers (length (C.value column.now).slots)) }
     ensures err { IfErr result IsNoMemory }
 {
     match column.keys()? {
@@ -107,6 +120,8 @@ pub(crate) fn classes_of_keys<T: Threads + Sync, G: Gate + Sync>(
     requires few { HasRowNumbers (rows_of_keys (seed_of pool.now) keys.now).count }
     ensures ok { let rows = rows_of_keys (seed_of pool.now) keys.now in IfOk result (λ made.
         grouping_of made ≡ path_groups (key_path_value path) rows 0 (partitions_of pool.now) sorted) }
+    ensures all { let rows = rows_of_keys (seed_of pool.now) keys.now in
+        IfOk result (NumberAll by_numbers rows.count) }
     ensures err { IfErr result IsNoMemory }
 {
     if by_numbers && sorted {
@@ -128,7 +143,7 @@ fn number_keys<T: Threads + Sync>(
 ) -> PolarsResult<Option<RowNumbers>>
     requires few { HasRowNumbers (rows_of_keys (seed_of pool.now) keys.now).count }
     ensures ok { let rows = rows_of_keys (seed_of pool.now) keys.now in
-        IfOk result (HaveNumbers path rows pool.now) }
+        IfOk result (λ found. IfSome found (AreNumbersBy path rows pool.now)) }
     ensures err { IfErr result IsNoMemory }
 {
     let mixer = SeedMixer::new(pool.seed());
@@ -149,7 +164,7 @@ fn number_bytes<T: Threads + Sync>(
 ) -> PolarsResult<Option<RowNumbers>>
     requires few { HasRowNumbers (length bytes.now.slots) }
     ensures ok { let rows = byte_rows (seed_of pool.now) bytes.now.slots in
-        IfOk result (HaveNumbers path rows pool.now) }
+        IfOk result (λ found. IfSome found (AreNumbersBy path rows pool.now)) }
     ensures err { IfErr result IsNoMemory }
 {
     let mixer = SeedMixer::new(pool.seed());

@@ -6,7 +6,7 @@ ghost use Rattle.std.specs.List.{range_with_len};
 ghost use Rattle.gb_defs.specs.Classes.{rows_below};
 ghost use Rattle.gb_defs.specs.Groups.{AreMembers, HasRowNumbers};
 ghost use Rattle.gb_base.specs.PlSmallStr.{IsNoMemory};
-ghost use Rattle.gb_paths.specs.Classes.{HaveNumbers};
+ghost use Rattle.gb_paths.specs.Classes.{AreNumbersBy};
 ghost use Rattle.gb_paths.specs.Numbering.{AreNumbersAmong, firsts_in, renumbered};
 
 use crate::path::KeyPath;
@@ -41,7 +41,8 @@ pub(crate) fn number_rows<T: Threads + Sync, R: KeyRows>(
     pool: &Pool,
 ) -> PolarsResult<Option<RowNumbers>>
     requires few { HasRowNumbers (R.rows rows.now).count }
-    ensures ok { IfOk result (HaveNumbers path (R.rows rows.now) pool.now) }
+    ensures ok { IfOk result (λ found.
+        IfSome found (AreNumbersBy path (R.rows rows.now) pool.now)) }
     ensures err { IfErr result IsNoMemory }
 {
     match path {

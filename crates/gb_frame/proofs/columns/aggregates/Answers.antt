@@ -1,5 +1,6 @@
 use Rattle.std.proofs.Common.{◌∙◌, ap, sym, subst, List, [], ◌∷◌, arith}
 use Rattle.std.proofs.lemmas.List.{take_all, map-append}
+use Rattle.std.proofs.lemmas.List.Elements.{All-get_or}
 use Rattle.std.proofs.lemmas.Result.{err_from_is_err_and}
 use Rattle.gb_defs.specs.Column.{content}
 use Rattle.gb_defs.specs.Fault.{unfit_fault}
@@ -7,6 +8,7 @@ use Rattle.gb_series.specs.declared.series.Series.{Series}
 use Rattle.gb_base.specs.PolarsError.{Explains, cause_of}
 use Rattle.gb_defs.specs.Groups.{lists_in}
 use Rattle.gb_series.specs.Series.{value_of}
+use Rattle.gb_agg.specs.Over.{Takes, grouping_over}
 use Rattle.gb_frame.specs.Grouping.{HasColumn, aggregates_over, unfit_cause}
 use Rattle.gb_frame.specs.Agg.{aggs_of}
 use Rattle.gb_frame.specs.Grouping.{contents_of}
@@ -40,7 +42,7 @@ loop-agg-preserved g c =
     let one = c.in_ok-agg_column.field-0 in
     record {
       parts = ap contents_of c.in_ok-push.ensures.items ∙ map-append part c.loop-agg.columns.items (one ∷ [])
-          ∙ parts_more frame [] [] (lists_in c.args.groups.now) aggs i agg c.loop-agg-test.true c.agg-item.is
+          ∙ parts_more frame [] [] (lists_in (grouping_over c.args.over.now)) aggs i agg c.loop-agg-test.true c.agg-item.is
           (contents_of c.loop-agg.columns.items) (part one) c.loop-agg.invariant.parts c.in_ok-agg_column.ensures.ok;
       fit = causes_more (unfit_cause frame) aggs i agg c.loop-agg-test.true c.loop-agg.invariant.fit (rw (← c.agg-item.is) c.in_ok-agg_column.ensures.fits);
     }
@@ -48,10 +50,16 @@ loop-agg-preserved g c =
 pub returns-clause-ok : goal.returns-clause-ok
 returns-clause-ok g c =
     c.loop-agg.invariant.parts
-    ∙ ap (λ (aggs : List Agg). aggregates_over c.args.frame.now (aggs_of aggs) (lists_in c.args.groups.now))
+    ∙ ap (λ (aggs : List Agg). aggregates_over c.args.frame.now (aggs_of aggs) (lists_in (grouping_over c.args.over.now)))
     (take_all c.loop-agg.agg-index c.args.aggs.now (omega (arith, c.loop-agg-test.false)))
 
 pub returns-clause-fits : goal.returns-clause-fits
 returns-clause-fits g c =
     let aggs = c.args.aggs.now in
     unfit_is c.args.frame.now aggs ∙ ap (first_cause (unfit_cause c.args.frame.now)) (sym (take_all c.loop-agg.agg-index aggs (omega (arith, c.loop-agg-test.false)))) ∙ c.loop-agg.invariant.fit
+
+pub agg_column-requires-clause-takes : goal.agg_column-requires-clause-takes
+agg_column-requires-clause-takes g c κs within =
+    let aggs = c.args.aggs.now in
+    subst (λ (agg : Agg). Takes c.args.over.now agg.method) (sym c.agg-item.is)
+    (All-get_or (λ (agg : Agg). Takes c.args.over.now agg.method) aggs c.loop-agg.agg-index c.agg-item.result c.loop-agg-test.true c.requires.takes)

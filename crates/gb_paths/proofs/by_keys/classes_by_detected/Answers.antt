@@ -5,7 +5,7 @@ use Rattle.gb_defs.specs.Classes.{agree_by}
 use Rattle.gb_defs.specs.Column.{Frame, NotSorted, frame_height}
 use Rattle.gb_defs.specs.Groups.{Grouping}
 use Rattle.gb_defs.specs.Notes.{detected}
-use Rattle.gb_paths.specs.Classes.{grouping_of}
+use Rattle.gb_paths.specs.Classes.{NumberAll, grouping_of}
 use Rattle.gb_series.specs.Series.{value_of}
 use Rattle.gb_rows.specs.Lent.{keys_in}
 use Rattle.gb_paths.specs.Tuples.{AreClasses, AreFound, path_value, slots_of, tuples_by}
@@ -79,3 +79,11 @@ returns-clause-whole g c =
     let some : 0 < length keys = rw (length-map lent (λ key. value_of key.now)) c.requires.some in
     IfOk-weaker c.classes_several.result _ _ (λ made h. subst (λ (g : Grouping). AreClasses (agree_by (slots_of keys)) (frame_height keys) g.pairs) (sym h)
     (keys_classes keys c.args.multithreaded c.args.sorted c.args.pool.now some)) c.classes_several.ensures.ok
+
+pub returns-then-keys-eq1-clause-all : goal.returns-then-keys-eq1-clause-all
+returns-then-keys-eq1-clause-all g c =
+    let lent = c.args.keys.now in
+    let key = c.index-keys-0.result in
+    let one = value_of key.now ∷ [] in
+    let same : one ≡ keys_in lent = ap (λ k. value_of k.now ∷ []) c.index-keys-0.is ∙ sym (only_lent lent key c.if-keys-eq1.true) in
+    IfOk-weaker c.classes_in_order.result _ _ (λ made h. subst (λ (ks : Frame). NumberAll c.args.by_numbers (frame_height ks) made.0) same h) c.classes_in_order.ensures.all

@@ -7,7 +7,7 @@ use Rattle.gb_defs.specs.Hash.{seed_mix}
 use Rattle.gb_defs.specs.Path.{hashed_path}
 use Rattle.gb_defs.specs.Rows.{rows_of_slots}
 use Rattle.gb_base.specs.Pool.{partitions_of, seed_of, threshold_of, workers_of}
-use Rattle.gb_paths.specs.Classes.{grouping_of}
+use Rattle.gb_paths.specs.Classes.{NumberAll, grouping_of}
 use Rattle.gb_rows.specs.Lent.{keys_in}
 use Rattle.gb_rows.specs.Rows.{row_slots}
 use Rattle.gb_paths.proofs.FormLemmas.{path_formed}
@@ -24,3 +24,8 @@ returns-clause-formed g c =
     let many = ap (λ v. length v.slots) c.in_ok-bytes.ensures.ok ∙ rows_many (keys_in c.args.keys.now) in
     IfOk-weaker c.classes_of_keys.result _ _ (λ groups h. subst (λ n. IsWellFormed n (grouping_of groups).pairs) many
     (subst (λ (made : Grouping). IsWellFormed (length c.in_ok-bytes.bytes.slots) made.pairs) (sym h) (path_formed _ _ 0 _ _))) c.classes_of_keys.ensures.ok
+
+pub returns-clause-all : goal.returns-clause-all
+returns-clause-all g c =
+    let many = ap (λ v. length v.slots) c.in_ok-bytes.ensures.ok ∙ rows_many (keys_in c.args.keys.now) in
+    IfOk-weaker c.classes_of_keys.result _ _ (λ made h. subst (λ n. NumberAll c.args.by_numbers n made) many h) c.classes_of_keys.ensures.all

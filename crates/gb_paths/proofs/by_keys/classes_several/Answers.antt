@@ -4,7 +4,7 @@ use Rattle.gb_defs.specs.Column.{frame_height}
 use Rattle.gb_defs.specs.Groups.{IsWellFormed}
 use Rattle.gb_defs.specs.Path.{hashed_path, run_groups}
 use Rattle.gb_base.specs.Pool.{threshold_of, workers_of}
-use Rattle.gb_paths.specs.Classes.{grouping_of}
+use Rattle.gb_paths.specs.Classes.{NumberAll, grouping_of}
 use Rattle.gb_series.specs.Series.{value_of}
 use Rattle.gb_rows.specs.Lent.{keys_in}
 use Rattle.gb_rows.specs.Rows.{AreOfOneLength}
@@ -92,3 +92,13 @@ returns-clause-formed g c =
     let some_keys : 0 < length (valued_keys keys) = subst (λ ks. 0 < length ks) valued (rw (length-map items (λ key. value_of key.now)) some) in
     let high = ap frame_height (ap keys_in c.deref.ensures.value ∙ valued) ∙ valued_height keys c.requires.aligned some_keys in
     subst (λ n. IsWellFormed n (grouping_of c.in_ok-made.made).pairs) high c.in_ok-made.ensures.formed
+
+pub returns-clause-all : goal.returns-clause-all
+returns-clause-all g c =
+    let keys = keys_in c.args.keys.now in
+    let items = c.in_ok-valued.valued.items in
+    let valued = c.in_ok-valued.ensures.valued in
+    let some : 0 < length items = search rules in
+    let some_keys : 0 < length (valued_keys keys) = subst (λ ks. 0 < length ks) valued (rw (length-map items (λ key. value_of key.now)) some) in
+    let high = ap frame_height (ap keys_in c.deref.ensures.value ∙ valued) ∙ valued_height keys c.requires.aligned some_keys in
+    subst (λ n. NumberAll c.args.by_numbers n c.in_ok-made.made) high c.in_ok-made.ensures.all

@@ -16,3 +16,9 @@ classes_of_keys-requires-clause-few g c κs within =
     let column = g.C.SeriesTrait.value c.args.column.now in
     let stand : StandFor column c.in-Some.keys = rw c.in-Some.is at c.in_ok-keys.ensures.ok in
     rw (stand.rows (seed_of c.args.pool.now)).many c.requires.few
+
+pub returns-clause-all : goal.returns-clause-all
+returns-clause-all g c =
+    let column = g.C.SeriesTrait.value c.args.column.now in
+    let stand : StandFor column c.in-Some.keys = rw c.in-Some.is at c.in_ok-keys.ensures.ok in
+    rw (stand.rows (seed_of c.args.pool.now)).many at c.classes_of_keys.ensures.all

@@ -1,7 +1,7 @@
-use Rattle.gb_agg.proofs.group_sums.number_sums.Goals as goal
+use Rattle.gb_agg.proofs.group_sums.GroupsViewSumGroups.number_sums.Goals as goal
 
 pub fold_groups-requires-clause-rows : goal.fold_groups-requires-clause-rows
-fold_groups-requires-clause-rows g c = rw c.new.ensures c.requires.rows
+fold_groups-requires-clause-rows g c = rw c.new.ensures c.requires.0
 
 pub returns-clause-ok : goal.returns-clause-ok
 returns-clause-ok g c = rw c.allocator-alloc.ensures.typed (rw c.new.ensures at c.fold_groups.ensures.ok)

@@ -1,4 +1,0 @@
-use Rattle.gb_agg.proofs.group_sums.flag_sums.Goals as goal
-
-pub fold_groups-requires-clause-rows : goal.fold_groups-requires-clause-rows
-fold_groups-requires-clause-rows c = rw c.new.ensures c.requires.rows

@@ -1,0 +1,30 @@
+use Rattle.std.proofs.Common.{◌≡◌, ◌∙◌, ap, arith, length, map, pos, sym}
+use Rattle.std.proofs.lemmas.List.FromFn.{length-range_with_len}
+use Rattle.gb_defs.specs.Column.{fresh_column}
+use Rattle.gb_defs.specs.ColumnType.{Boolean, Flat, uint32}
+use Rattle.gb_defs.specs.Fold.{Sum, fold_of}
+use Rattle.gb_defs.specs.Groups.{lists_in}
+use Rattle.gb_defs.specs.Slot.{Num}
+use Rattle.gb_base.specs.PlSmallStr.{name_of}
+use Rattle.gb_paths.specs.Numbering.{numbered}
+use Rattle.gb_agg.proofs.NumberedLemmas.{rows_inside, sums_numbered}
+use Rattle.gb_agg.proofs.numbered_sums.RowNumbersSumGroups.flag_sums.Goals as goal
+
+pub fold_numbered-requires-clause-inside : goal.fold_numbered-requires-clause-inside
+fold_numbered-requires-clause-inside c =
+    rows_inside c.new-rows.result.count (length c.args.column.now.slots) (omega (arith, c.new-rows.ensures, c.requires))
+
+pub fold_numbered-requires-clause-each : goal.fold_numbered-requires-clause-each
+fold_numbered-requires-clause-each c =
+    let long = length-range_with_len 0 c.new-rows.result.count in
+    let given = ap length c.deref.ensures.value in
+    omega (arith, long, given, c.new-rows.ensures)
+
+pub returns-clause-ok : goal.returns-clause-ok
+returns-clause-ok c =
+    let name = name_of c.args.name in
+    let slots = c.args.column.now.slots in
+    let numbers = c.args.self.now in
+    let sums = sums_numbered (λ n. pos n) (Flat Boolean) slots numbers c.new-rows.result.count c.len-groups.result c.deref.result.now c.in_ok-sums.sums.items (omega (arith, c.new-rows.ensures)) c.deref.ensures.value (omega (arith, c.len-groups.ensures)) c.in_ok-sums.ensures in
+    c.in_ok-made.ensures.ok ∙ ap (λ ss. fresh_column name uint32 (map (λ n. Num (pos n)) ss)) c.deref-2.ensures.value ∙ ap (fresh_column name uint32) sums
+    ∙ ap (λ d. fresh_column name uint32 (map (fold_of Sum d slots) (lists_in (numbered numbers)))) (sym c.allocator-alloc.ensures.typed)
