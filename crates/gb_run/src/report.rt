@@ -155,7 +155,8 @@ fn group_report<R: Threads + Sync, S: Source, G: Gate + Sync>(
     };
     let frame = read_table(rt, alloc, source, limits.input_bytes, &reading)?;
     let (answer, trace) = group_frame(rt, alloc, &frame, by, aggs, &pool, gate)?;
-    let text = text::text_of(alloc, &answer, options.null_word.as_str())?;
+    let null_word = options.null_word.as_str();
+    let text = text::text_of(rt, alloc, &answer, null_word, pool.workers())?;
     let line = trace_line(alloc, options.explain, &trace)?;
     Ok(Answer { text, line })
 }

@@ -1,7 +1,10 @@
 -- The text of a record, field by field, and of a frame, row by row.
-use Rattle.std.proofs.Common.{◌≡◌, ◌==◌, ◌≢◌, ◌+◌, ◌-◌, ◌^◌, ◌<◌, not, true, false, ℕ, zero, suc, List, [], ◌∷◌, ◌++◌, length, map, min, inl, inr, Option, Some, Vec, Global, refl, sym, ap, ◌∙◌, arith, append_assoc, append-nil, length-append}
+use Rattle.std.proofs.Common.{◌≡◌, ◌==◌, ◌≢◌, ◌+◌, ◌-◌, ◌^◌, ◌<◌, ◌≤◌, not, true, false, ℕ, zero, suc, List, [], ◌∷◌, ◌++◌, length, map, min, inl, inr, Option, Some, Vec, Global, get_or, refl, sym, ap, ap₂, ◌∙◌, arith, append_assoc, append-nil, length-append}
 use Rattle.std.specs.Io.KnownBytes.{Appends, Keeps}
-use Rattle.std.specs.List.{All, flat_map}
+use Rattle.std.specs.List.{All, flat_map, range_with_len}
+use Rattle.std.proofs.lemmas.Grind.{flat_map-append}
+use Rattle.std.proofs.lemmas.List.{flat_map_more, map-id}
+use Rattle.std.proofs.lemmas.List.FromFn.{get_or-map-range_with_len, length-map-range_with_len}
 use Rattle.std.proofs.lemmas.Bool.{cases_Bool, eqb-true}
 use Rattle.csv.specs.Writing.{default_writer, field_text, fields_written, has_written, is_blank, next_sep, row_body, row_text, tail_text, text_written, writer_setup}
 use Rattle.csv.specs.declared.writer.Writer.{Writer}
@@ -9,6 +12,8 @@ use Rattle.csv.specs.declared.writer.QuoteStyle.TheVariants as style
 use Rattle.csv.proofs.WriteFacts.{row-more, blank-more, row-final}
 use Rattle.gb_defs.specs.Classes.{rows_below}
 use Rattle.gb_defs.specs.Column.{ColumnValue, Frame, all_have_length, content, frame_height}
+use Rattle.gb_defs.specs.Flat.{range_at}
+use Rattle.gb_flat.proofs.RangeLemmas.{range_more, ranges_joined}
 use Rattle.gb_defs.specs.Text.{frame_text, header_line, row_line}
 use Rattle.gb_series.specs.declared.series.Series.{Series}
 use Rattle.gb_series.specs.Series.{value_of}
@@ -96,3 +101,33 @@ text_is (c ∷ cs) frame null_word e some = rw (← e, contents_are cs) refl
 pub some_columns : (count : ℕ) → false ≡ (count == 0) → 0 < count
 some_columns zero e = cc
 some_columns (suc n) e = omega arith
+
+-- ---- rows by ranges
+
+pub row_more : (line : ℕ → List ℕ) (before : List ℕ) (first place : ℕ) → (before ++ flat_map line (range_with_len first place)) ++ line (first + place) ≡ before ++ flat_map line (range_with_len first (place + 1))
+row_more line before first place = flat_map_more line before (range_with_len first place) (first + place) ∙ ap (λ rows. before ++ flat_map line rows) (sym (range_more first place))
+
+-- lists that are made of lists
+flat_flat : (line : ℕ → List ℕ) (lists : List (List ℕ)) → flat_map (flat_map line) lists ≡ flat_map line (flat_map (λ rows. rows) lists)
+flat_flat line [] = refl
+flat_flat line (rows ∷ lists) = ap (λ text. flat_map line rows ++ text) (flat_flat line lists) ∙ sym (flat_map-append line rows (flat_map (λ rs. rs) lists))
+
+texts_from : {A : Type 0} (h : A → List ℕ) (list : ℕ → List ℕ) (line : ℕ → List ℕ) (made : List A) (j : ℕ) → ((k : ℕ) (d : A) → k < length made → h (get_or made k d) ≡ flat_map line (list (j + k))) →
+    flat_map h made ≡ flat_map (flat_map line) (map list (range_with_len j (length made)))
+texts_from h list line [] j each = refl
+texts_from h list line (x ∷ xs) j each =
+    let first : j + 0 ≡ j = omega arith in
+    ap₂ (λ (a b : List ℕ). a ++ b) (rw first at (each 0 x (omega arith)))
+    (texts_from h list line xs (j + 1) (λ k d lt. let next : j + suc k ≡ j + 1 + k = omega arith in rw next at (each (suc k) d (omega (arith, lt)))))
+
+-- the texts of ranges, one behind another, are the text of all rows
+pub texts_joined : {A : Type 0} (h : A → List ℕ) (line : ℕ → List ℕ) (n m : ℕ) (made : List A) → 1 ≤ m → length made ≡ m →
+    ((k : ℕ) (d : A) → k < m → h (get_or made k d) ≡ flat_map line (range_with_len (range_at n m k).0 (range_at n m k).1)) → flat_map h made ≡ flat_map line (range_with_len 0 n)
+texts_joined h line n m made some long each =
+    let list : ℕ → List ℕ = λ k. range_with_len (range_at n m k).0 (range_at n m k).1 in
+    let lists = map list (range_with_len 0 m) in
+    texts_from h list line made 0 (λ k d lt. let here : 0 + k ≡ k = omega arith in rw here (each k d (omega (arith, lt, long))))
+    ∙ ap (λ count. flat_map (flat_map line) (map list (range_with_len 0 count))) long
+    ∙ flat_flat line lists
+    ∙ ap (flat_map line) (ranges_joined (λ rows. rows) (λ row. row) n m lists some (length-map-range_with_len list 0 m)
+    (λ k d lt. get_or-map-range_with_len list 0 m k k d lt (omega arith) ∙ sym (map-id (list k))) ∙ map-id (range_with_len 0 n))

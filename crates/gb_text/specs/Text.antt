@@ -1,9 +1,11 @@
 -- What a writer of records over bytes has taken of a text.
 use Rattle.std.specs.Prelude.{◌≡◌, ◌==◌, ◌&&◌, ◌||◌, ◌+◌, ◌^◌, ◌<◌, not, ℕ, List, [], ◌∷◌, ◌++◌, map, length, Some, Vec}
 use Rattle.std.specs.Global.{Global}
+use Rattle.std.specs.List.{flat_map, range_with_len}
 use Rattle.csv.specs.Writing.{default_writer, fields_written, has_written, is_blank, row_body, row_text, text_written, writer_setup}
 use Rattle.csv.specs.declared.writer.Writer.{Writer}
 use Rattle.gb_defs.specs.Column.{Content, content}
+use Rattle.gb_defs.specs.Text.{row_line}
 use Rattle.gb_series.specs.declared.series.Series.{Series}
 use Rattle.gb_series.specs.Series.{value_of}
 
@@ -29,3 +31,7 @@ TakesRows old new text = (before : List ℕ) → HasBegun old before [] → HasB
 -- the columns, as a text shows them
 abbrev pub contents_of : List Series → List Content
 contents_of columns = map (λ column. content (value_of column)) columns
+
+-- the rows of a range, its first row and how many they are, as text
+abbrev pub rows_text : List ℕ → List Content → ℕ × ℕ → List ℕ
+rows_text null_word contents range = flat_map (row_line null_word contents) (range_with_len range.0 range.1)

@@ -1,23 +1,26 @@
 //! The text of a frame: a row of header fields, and a row of cells for each row.
 
-ghost use Rattle.std.specs.Prelude.{◌≡◌, ◌<◌, All, IfErr, IfOk, OnOk, length, map};
-ghost use Rattle.std.specs.List.{flat_map};
-ghost use Rattle.gb_defs.specs.Classes.{rows_below};
+ghost use Rattle.std.specs.Prelude.{◌≡◌, ℕ, ◌+◌, ◌++◌, ◌<◌, ◌≤◌, ◌^◌, [], All, IfErr, IfOk, List, OnOk, length, map};
 ghost use Rattle.gb_defs.specs.Column.{content};
 ghost use Rattle.gb_defs.specs.Text.{frame_text, header_field, header_line, row_line};
 ghost use Rattle.gb_cols.specs.Column.{cell_of};
 ghost use Rattle.gb_base.specs.PlSmallStr.{IsNoMemory};
 ghost use Rattle.gb_series.specs.Series.{value_of};
-ghost use Rattle.gb_text.specs.Text.{EndsRow, TakesField, TakesRows, contents_of};
+ghost use Rattle.gb_text.specs.Text.{EndsRow, HasBegun, TakesField, TakesRows, contents_of, rows_text};
 
 use crate::table::only_memory;
 use crate::type_word::put_word;
 use csv::{Writer, WriterBuilder};
 use gb_base::error::{PolarsError, PolarsResult};
 use gb_cols::series_trait::SeriesTrait;
+use gb_flat::shares::{join_shares, map_shares};
 use gb_series::frame::DataFrame;
 use gb_series::series::Series;
 use std::alloc::{AllocError, Global};
+use std::thread::Threads;
+
+// For fewer rows a worker no thread is started.
+const SHARE_ROWS: usize = 16_384;
 
 // One field more of the record.
 fn put_field(writer: &mut Writer<Vec<u8>>, field: &[u8]) -> Result<(), AllocError>
@@ -107,26 +110,125 @@ fn put_row(
     end_row(writer)
 }
 
-// All rows of cells.
+// The rows of cells of a range, its first row and how many they are.
 fn put_rows(
     writer: &mut Writer<Vec<u8>>,
     columns: &[Series],
-    height: usize,
+    range: (usize, usize),
     null_word: &str,
     cell: &mut Vec<u8>,
 ) -> Result<(), AllocError>
-    requires { All (λ column. length (value_of column).slots ≡ height) columns.now }
-    ensures { let line = row_line null_word.now (contents_of columns.now) in
-        OnOk result (TakesRows writer.old writer.new (flat_map line (rows_below height))) }
+    requires rows { All (λ column. range.0 + range.1 ≤ length (value_of column).slots) columns.now }
+    requires few { range.0 + range.1 < 2 ^ 64 }
+    ensures { let text = rows_text null_word.now (contents_of columns.now) range in
+        OnOk result (TakesRows writer.old writer.new text) }
 {
-    for row in 0..height {
-        put_row(writer, columns, row, null_word, cell)?;
+    let (first, count) = range;
+    for place in 0..count {
+        put_row(writer, columns, first + place, null_word, cell)?;
     }
     Ok(())
 }
 
-/// The text of the frame, with this word for null.
-pub fn text_of(alloc: Global, frame: &DataFrame, null_word: &str) -> PolarsResult<Vec<u8>>
+// A writer to which nothing was written.
+fn fresh_writer(alloc: Global) -> Writer<Vec<u8>>
+    ensures { HasBegun result [] [] }
+{
+    WriterBuilder::new().from_writer(Vec::new(alloc))
+}
+
+// What was written.
+fn written(writer: Writer<Vec<u8>>) -> PolarsResult<Vec<u8>>
+    ensures ok { (text : List ℕ) → HasBegun writer text []
+        → IfOk result (λ t. t.items ≡ text) }
+    ensures err { IfErr result IsNoMemory }
+{
+    match writer.into_inner() {
+        Ok(text) => Ok(text),
+        Err(_) => Err(PolarsError::NoMemory),
+    }
+}
+
+// The row of header fields, and the rows of cells of a range.
+fn text_from_header(
+    alloc: Global,
+    columns: &[Series],
+    range: (usize, usize),
+    null_word: &str,
+) -> PolarsResult<Vec<u8>>
+    requires rows { All (λ column. range.0 + range.1 ≤ length (value_of column).slots) columns.now }
+    requires few { range.0 + range.1 < 2 ^ 64 }
+    ensures ok { let contents = contents_of columns.now in IfOk result (λ t.
+        t.items ≡ header_line contents ++ rows_text null_word.now contents range) }
+    ensures err { IfErr result IsNoMemory }
+{
+    let mut writer = fresh_writer(alloc);
+    put_header(alloc, &mut writer, columns)?;
+    let mut cell = Vec::new(alloc);
+    put_rows(&mut writer, columns, range, null_word, &mut cell)?;
+    let text = written(writer)?;
+    Ok(text)
+}
+
+// The rows of cells of a range.
+fn text_of_rows(
+    alloc: Global,
+    columns: &[Series],
+    range: (usize, usize),
+    null_word: &str,
+) -> PolarsResult<Vec<u8>>
+    requires rows { All (λ column. range.0 + range.1 ≤ length (value_of column).slots) columns.now }
+    requires few { range.0 + range.1 < 2 ^ 64 }
+    ensures ok { let contents = contents_of columns.now in
+        IfOk result (λ t. t.items ≡ rows_text null_word.now contents range) }
+    ensures err { IfErr result IsNoMemory }
+{
+    let mut writer = fresh_writer(alloc);
+    let mut cell = Vec::new(alloc);
+    put_rows(&mut writer, columns, range, null_word, &mut cell)?;
+    let text = written(writer)?;
+    Ok(text)
+}
+
+// The whole text, in which each worker writes some rows that follow each other.
+fn text_by_workers<T: Threads + Sync>(
+    rt: &T,
+    alloc: Global,
+    columns: &[Series],
+    height: usize,
+    null_word: &str,
+    workers: usize,
+) -> PolarsResult<Vec<u8>>
+    requires some { 1 ≤ workers }
+    requires high { All (λ column. length (value_of column).slots ≡ height) columns.now }
+    ensures ok { let contents = contents_of columns.now in IfOk result (λ t.
+        t.items ≡ header_line contents ++ rows_text null_word.now contents (0, height)) }
+    ensures err { IfErr result IsNoMemory }
+{
+    let part = |range: (usize, usize)|
+        requires { All (λ column. range.0 + range.1 ≤ length (value_of column).slots) columns.now
+            × (range.0 + range.1 < 2 ^ 64) }
+        ensures { IfOk result (λ t. t.items
+            ≡ rows_text null_word.entry.now (contents_of columns.entry.now) range)
+            × IfErr result IsNoMemory }
+    { text_of_rows(alloc, columns, range, null_word) };
+    let mut rows = map_shares(rt, alloc, height, workers, &part)?;
+    let mut parts = Vec::with_capacity(alloc, workers + 1)?;
+    parts.push(text_from_header(alloc, columns, (0, 0), null_word)?)?;
+    parts.append(&mut rows)?;
+    let text = join_shares(alloc, parts)?;
+    Ok(text)
+}
+
+/// The text of the frame, with this word for null, by so many workers if it has many rows. With one worker no
+/// thread is started.
+pub fn text_of<T: Threads + Sync>(
+    rt: &T,
+    alloc: Global,
+    frame: &DataFrame,
+    null_word: &str,
+    workers: usize,
+) -> PolarsResult<Vec<u8>>
     ensures ok { IfOk result (λ t. t.items ≡ frame_text (map content frame.now) null_word.now) }
     ensures err { IfErr result IsNoMemory }
 {
@@ -134,12 +236,12 @@ pub fn text_of(alloc: Global, frame: &DataFrame, null_word: &str) -> PolarsResul
     if columns.is_empty() {
         return Ok(Vec::new(alloc));
     }
-    let mut writer = WriterBuilder::new().from_writer(Vec::new(alloc));
-    put_header(alloc, &mut writer, columns)?;
-    let mut cell = Vec::new(alloc);
-    put_rows(&mut writer, columns, frame.height(), null_word, &mut cell)?;
-    match writer.into_inner() {
-        Ok(text) => Ok(text),
-        Err(_) => Err(PolarsError::NoMemory),
+    let height = frame.height();
+    let workers = workers.min(height / SHARE_ROWS);
+    if workers < 2 {
+        let text = text_from_header(alloc, columns, (0, height), null_word)?;
+        return Ok(text);
     }
+    let text = text_by_workers(rt, alloc, columns, height, null_word, workers)?;
+    Ok(text)
 }
