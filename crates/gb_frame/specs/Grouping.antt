@@ -1,5 +1,6 @@
 -- The columns of an answer over the groups that were found.
 use Rattle.std.specs.Prelude.{◌≡◌, ℕ, ◌<◌, All, List, [], ◌∷◌, ◌++◌, length, map, Option, None, false, true, is_none, if◌then◌else◌}
+use Rattle.std.specs.Borrow.{Bor}
 use Rattle.gb_defs.specs.Column.{ColumnValue, Content, Frame, IsFrame, content, find_column, taken}
 use Rattle.gb_defs.specs.Fold.{Method}
 use Rattle.gb_defs.specs.Answer.{aggregated}
@@ -47,6 +48,10 @@ unfit_cause frame agg = unfit_or (name_of agg.column) (unfit_at (method_of agg.m
 -- a key has all these rows
 abbrev pub HasRows : List ℕ → ColumnValue → Type 0
 HasRows rows key = All (λ row. row < length key.slots) rows
+
+-- a key that is lent, at these rows
+abbrev pub taken_at : List ℕ → Bor Series → Content
+taken_at rows key = content (taken rows (value_of key.now))
 
 -- where the frame has columns they have so many rows
 abbrev pub HasHeight : Frame → ℕ → Type 0

@@ -1,6 +1,6 @@
 //! The columns of an answer: the keys at the first rows of groups, and the aggregates over their rows.
 
-ghost use Rattle.std.specs.Prelude.{◌≡◌, All, None, false, is_none, map, IfErr, IfOk, OnOk};
+ghost use Rattle.std.specs.Prelude.{◌≡◌, ◌+◌, ◌≤◌, All, drop, length, take, None, false, is_none, map, IfErr, IfOk, OnOk};
 ghost use Rattle.gb_base.specs.PlSmallStr.{IsNoMemory, name_of};
 ghost use Rattle.gb_base.specs.PolarsError.{Explains};
 ghost use Rattle.gb_defs.specs.Answer.{aggregated};
@@ -11,7 +11,7 @@ ghost use Rattle.gb_rows.specs.Lent.{keys_in};
 ghost use Rattle.gb_series.specs.Series.{value_of};
 ghost use Rattle.gb_agg.specs.Over.{Takes, grouping_over};
 ghost use Rattle.gb_frame.specs.Agg.{agg_of, aggs_of};
-ghost use Rattle.gb_frame.specs.Grouping.{AreGroupsIn, HasColumn, HasRows, NumberRowsIn, aggregates_over, contents_of, firsts_in, unfit_cause};
+ghost use Rattle.gb_frame.specs.Grouping.{AreGroupsIn, HasColumn, HasRows, NumberRowsIn, taken_at, aggregates_over, contents_of, firsts_in, unfit_cause};
 
 use crate::agg::Agg;
 use gb_agg::method::fmt_group_by_column;
@@ -20,11 +20,15 @@ use gb_base::error::PolarsResult;
 use gb_base::nullable_idx::IdxSize;
 use gb_base::pool::Pool;
 use gb_cols::series_trait::SeriesTrait;
+use gb_flat::shares::{join_shares, map_shares};
 use gb_groups::view::GroupsView;
 use gb_series::frame::DataFrame;
 use gb_series::series::Series;
 use std::alloc::{AllocError, Global};
 use std::thread::Threads;
+
+// For fewer rows no thread is started to take keys at them.
+const SHARE_ROWS: usize = 65_536;
 
 // The keys at some rows.
 pub(crate) fn keys_at(
@@ -42,6 +46,52 @@ pub(crate) fn keys_at(
         columns.push(key.take(rows)?)?;
     }
     Ok(columns)
+}
+
+// The same by so many workers as the pool has, each some keys that follow each other, where there are many rows.
+pub(crate) fn keys_by_workers<R: Threads + Sync>(
+    rt: &R,
+    alloc: Global,
+    keys: &[&Series],
+    rows: &[IdxSize],
+    pool: &Pool,
+) -> PolarsResult<Vec<Series>>
+    requires { All (HasRows rows.now) (keys_in keys.now) }
+    ensures ok { let taken = map (λ key. content (taken rows.now key)) (keys_in keys.now) in
+        IfOk result (λ columns. contents_of columns.items ≡ taken) }
+    ensures err { IfErr result IsNoMemory }
+{
+    let workers = pool.workers().min(keys.len());
+    if workers < 2 || rows.len() < SHARE_ROWS {
+        return keys_at(alloc, keys, rows);
+    }
+    let part = |range: (usize, usize)|
+        requires { range.0 + range.1 ≤ length keys.now
+            × All (HasRows rows.now) (keys_in keys.now) }
+        ensures { IfOk result (λ columns. contents_of columns.items
+            ≡ map (taken_at rows.entry.now) (take range.1 (drop range.0 keys.entry.now)))
+            × IfErr result IsNoMemory }
+    { keys_of_range(alloc, keys, range, rows) };
+    let made = map_shares(rt, alloc, keys.len(), workers, &part)?;
+    let columns = join_shares(alloc, made)?;
+    Ok(columns)
+}
+
+// Those of a range of keys, its first and how many they are.
+fn keys_of_range(
+    alloc: Global,
+    keys: &[&Series],
+    range: (usize, usize),
+    rows: &[IdxSize],
+) -> PolarsResult<Vec<Series>>
+    requires inside { range.0 + range.1 ≤ length keys.now }
+    requires rows { All (HasRows rows.now) (keys_in keys.now) }
+    ensures ok { IfOk result (λ columns. contents_of columns.items
+        ≡ map (taken_at rows.now) (take range.1 (drop range.0 keys.now))) }
+    ensures err { IfErr result IsNoMemory }
+{
+    let (first, count) = range;
+    keys_at(alloc, &keys[first..first + count], rows)
 }
 
 // The first row of each group.

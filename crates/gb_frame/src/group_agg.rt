@@ -18,7 +18,7 @@ ghost use Rattle.gb_frame.specs.Refusals.{aggs_fault};
 
 use crate::agg::Agg;
 use crate::checks::check_columns;
-use crate::columns::{aggregates, keys_at};
+use crate::columns::{aggregates, keys_by_workers};
 use crate::key::{fit_keys, lend, lent_keys};
 use crate::options::GroupOptions;
 use gb_agg::over::Over;
@@ -160,7 +160,7 @@ fn answer_columns<R: Threads + Sync>(
 {
     let mut folded = class_aggregates(rt, alloc, frame, aggs, &classes, pool)?;
     let firsts = classes.take_firsts()?;
-    let mut columns = keys_at(alloc, keys, &firsts)?;
+    let mut columns = keys_by_workers(rt, alloc, keys, &firsts, pool)?;
     columns.append(&mut folded)?;
     Ok(columns)
 }

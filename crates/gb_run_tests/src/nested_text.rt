@@ -67,7 +67,7 @@ fn frame_of(alloc: Global) -> PolarsResult<DataFrame> {
 
 fn is_written(frame: PolarsResult<DataFrame>, alloc: Global, wanted: &str) -> bool {
     match frame {
-        Ok(frame) => match text_of(alloc, &frame, "-") {
+        Ok(frame) => match text_of(&rt, alloc, &frame, "-", 1) {
             Ok(text) => text.as_slice() == wanted.as_bytes(),
             Err(_) => false,
         },
