@@ -19,6 +19,7 @@ use gb_text::table::table_of;
 use gb_text::text::text_of;
 use std::alloc::Global;
 use std::test::Fail;
+use std::thread::Threads;
 
 // The text `a"`, and a null.
 fn texts(alloc: Global) -> PolarsResult<StringChunked>
@@ -65,9 +66,14 @@ fn frame_of(alloc: Global) -> PolarsResult<DataFrame> {
     DataFrame::new(columns)
 }
 
-fn is_written(frame: PolarsResult<DataFrame>, alloc: Global, wanted: &str) -> bool {
+fn is_written<R: Threads + Sync>(
+    rt: &R,
+    frame: PolarsResult<DataFrame>,
+    alloc: Global,
+    wanted: &str,
+) -> bool {
     match frame {
-        Ok(frame) => match text_of(&rt, alloc, &frame, "-", 1) {
+        Ok(frame) => match text_of(rt, alloc, &frame, "-", 1) {
             Ok(text) => text.as_slice() == wanted.as_bytes(),
             Err(_) => false,
         },
@@ -98,6 +104,6 @@ fn texts_of_nested_frames(rt: HostRuntime) -> Result<(), Fail> {
     let read = table_of(&rt, alloc, b"x:foo\n1\n", &reading);
     assert!(rt; is_text_column(read, "x:foo"));
     let wanted = "l:list[str]\n\"[\"\"a\\\"\"\"\",null]\"\n";
-    assert!(rt; is_written(frame_of(alloc), alloc, wanted));
+    assert!(rt; is_written(&rt, frame_of(alloc), alloc, wanted));
     Ok(())
 }
