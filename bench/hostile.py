@@ -25,7 +25,6 @@ PATIENCE = 60
 # Twenty limits of address space from 16 MB to 1 GB, each as many times the one before.
 LIMITS = [int(2 ** (24 + 6 * place / 19)) for place in range(20)]
 
-
 # What keys are, and what `crafted` calls them.
 KEYS = (
     ("numbers, low bits shared", "low"),
