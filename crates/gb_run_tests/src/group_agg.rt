@@ -64,12 +64,19 @@ fn keys_beside_a_frame(rt: HostRuntime) -> Result<(), Fail> {
     let frame = days(&rt, alloc)?;
     let each = numbers(alloc, "k", &[1, 1, 2, 2, 2])?;
     let made = sums(&rt, alloc, &frame, &[&each], "temp");
-    assert!(rt; writes(alloc, made, "k:i32,temp_sum:i32\n1,30\n2,17\n")?);
+    assert!(rt; writes(&rt, alloc, made, "k:i32,temp_sum:i32\n1,30\n2,17\n")?);
     let one = numbers(alloc, "o", &[7])?;
     let made = sums(&rt, alloc, &frame, &[&one], "temp");
-    assert!(rt; writes(alloc, made, "o:i32,temp_sum:i32\n7,47\n")?);
+    assert!(rt; writes(&rt, alloc, made, "o:i32,temp_sum:i32\n7,47\n")?);
     let made = sums(&rt, alloc, &frame, &[&one, &each], "temp");
-    assert!(rt; writes(alloc, made, "o:i32,k:i32,temp_sum:i32\n7,1,30\n7,2,17\n")?);
+    assert!(rt;
+        writes(
+            &rt,
+            alloc,
+            made,
+            "o:i32,k:i32,temp_sum:i32\n7,1,30\n7,2,17\n"
+        )?
+    );
     Ok(())
 }
 
@@ -115,9 +122,9 @@ fn keys_beside_no_rows(rt: HostRuntime) -> Result<(), Fail> {
         &pool,
         &FreeGate,
     );
-    assert!(rt; writes(alloc, made, "k:i32\n")?);
+    assert!(rt; writes(&rt, alloc, made, "k:i32\n")?);
     let made = group_agg(&rt, alloc, &empty, &[&one], &[], IN_ORDER, &pool, &FreeGate);
-    assert!(rt; writes(alloc, made, "k:i32\n7\n")?);
+    assert!(rt; writes(&rt, alloc, made, "k:i32\n7\n")?);
     let made = group_agg(
         &rt,
         alloc,
@@ -128,7 +135,7 @@ fn keys_beside_no_rows(rt: HostRuntime) -> Result<(), Fail> {
         &pool,
         &FreeGate,
     );
-    assert!(rt; writes(alloc, made, "k:i32,j:i32\n7,3\n")?);
+    assert!(rt; writes(&rt, alloc, made, "k:i32,j:i32\n7,3\n")?);
     Ok(())
 }
 
@@ -176,7 +183,14 @@ fn a_grouping_by_columns(rt: HostRuntime) -> Result<(), Fail> {
     by.push(numbers(alloc, "o", &[7])?)?;
     let mut grouped = frame.group_by_with_series(&rt, alloc, by, IN_ORDER, &pool)?;
     let made = grouped.agg(&rt, alloc, &sum_of(alloc, "temp")?, &pool);
-    assert!(rt; writes(alloc, made, "k:i32,o:i32,temp_sum:i32\n1,7,30\n2,7,17\n")?);
+    assert!(rt;
+        writes(
+            &rt,
+            alloc,
+            made,
+            "k:i32,o:i32,temp_sum:i32\n1,7,30\n2,7,17\n"
+        )?
+    );
     let groups = grouped.get_groups().try_clone()?;
     grouped.set_groups(groups);
     assert_eq!(rt; grouped.keys(alloc)?.len(), 2);

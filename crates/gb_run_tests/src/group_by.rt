@@ -36,13 +36,15 @@ pub(crate) fn names(alloc: Global, words: &[&str]) -> PolarsResult<Vec<PlSmallSt
 }
 
 // Whether a frame was made whose text is this.
-pub(crate) fn writes(
+pub(crate) fn writes<R: Threads + Sync>(
+    rt: &R,
     alloc: Global,
     made: PolarsResult<DataFrame>,
     text: &str,
 ) -> PolarsResult<bool> {
     let frame = made?;
-    Ok(text_of(alloc, &frame, "-")?.as_slice() == text.as_bytes())
+    let written = text_of(rt, alloc, &frame, "-", 1)?;
+    Ok(written.as_slice() == text.as_bytes())
 }
 
 #[test]
@@ -54,19 +56,19 @@ fn aggregates_of_a_grouping(rt: HostRuntime) -> Result<(), Fail> {
     let grouped = frame.group_by_stable(&rt, alloc, &by, &pool)?;
     let made = grouped.sum(&rt, alloc, &pool);
     let text = "date:str,temp_sum:i32\n2020-08-21,30\n2020-08-22,8\n2020-08-23,9\n";
-    assert!(rt; writes(alloc, made, text)?);
+    assert!(rt; writes(&rt, alloc, made, text)?);
     let made = grouped.min(&rt, alloc, &pool);
     let text = "date:str,temp_min:i32\n2020-08-21,10\n2020-08-22,1\n2020-08-23,9\n";
-    assert!(rt; writes(alloc, made, text)?);
+    assert!(rt; writes(&rt, alloc, made, text)?);
     let made = grouped.max(&rt, alloc, &pool);
     let text = "date:str,temp_max:i32\n2020-08-21,20\n2020-08-22,7\n2020-08-23,9\n";
-    assert!(rt; writes(alloc, made, text)?);
+    assert!(rt; writes(&rt, alloc, made, text)?);
     let made = grouped.first(&rt, alloc, &pool);
     let text = "date:str,temp_first:i32\n2020-08-21,20\n2020-08-22,7\n2020-08-23,9\n";
-    assert!(rt; writes(alloc, made, text)?);
+    assert!(rt; writes(&rt, alloc, made, text)?);
     let made = grouped.last(&rt, alloc, &pool);
     let text = "date:str,temp_last:i32\n2020-08-21,10\n2020-08-22,1\n2020-08-23,9\n";
-    assert!(rt; writes(alloc, made, text)?);
+    assert!(rt; writes(&rt, alloc, made, text)?);
     Ok(())
 }
 
@@ -82,18 +84,18 @@ fn counts_and_lists_of_a_grouping(rt: HostRuntime) -> Result<(), Fail> {
     assert_eq!(rt; grouped.keys(alloc)?.len(), 1);
     let made = grouped.n_unique(&rt, alloc, &pool);
     let text = "date:str,temp_n_unique:u32\n2020-08-21,2\n2020-08-22,2\n2020-08-23,1\n";
-    assert!(rt; writes(alloc, made, text)?);
+    assert!(rt; writes(&rt, alloc, made, text)?);
     let made = grouped.count(&rt, alloc, &pool);
     let text = "date:str,temp_count:u32\n2020-08-21,2\n2020-08-22,2\n2020-08-23,1\n";
-    assert!(rt; writes(alloc, made, text)?);
+    assert!(rt; writes(&rt, alloc, made, text)?);
     let made = grouped.agg_list(&rt, alloc, &pool);
     let text =
         "date:str,temp_agg_list:list[i32]\n2020-08-21,\"[20,10]\"\n2020-08-22,\"[7,1]\"\n2020-08-23,[9]\n";
-    assert!(rt; writes(alloc, made, text)?);
+    assert!(rt; writes(&rt, alloc, made, text)?);
     let made = grouped.groups(&rt, alloc, &pool);
     let text =
         "date:str,groups:list[u32]\n2020-08-21,\"[0,1]\"\n2020-08-22,\"[2,4]\"\n2020-08-23,[3]\n";
-    assert!(rt; writes(alloc, made, text)?);
+    assert!(rt; writes(&rt, alloc, made, text)?);
     assert_eq!(rt; grouped.take_groups().view().len(), 3);
     Ok(())
 }
