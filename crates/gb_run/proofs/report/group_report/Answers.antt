@@ -44,7 +44,7 @@ returns-clause-ok g c =
     let line = string_bytes c.in_ok-line.line in
     let some : 0 < length by = rw (length-map c.args.by.now name_of) c.requires.some in
     let read = rw (c.as_str.ensures, c.deref.ensures.value, c.in_ok-names.ensures) at c.in_ok-frame.ensures.ok in
-    let printed = rw c.as_str-2.ensures at c.in_ok-text.ensures.ok in
+    let printed = rw c.as_str-null_word.ensures at c.in_ok-text.ensures.ok in
     let traced = rw (c.pool_of-pool.ensures.workers, c.pool_of-pool.ensures.threshold) at c.in_ok-answer.ensures.traced in
     read_map c.args.limits.input_bytes _ _ (λ bytes. asked_table (asked_names by aggs) bytes options.null_word ≡ Ok (map rechunked frame))
     (λ bytes. IsAnswerTo (group_by c.args.by.now c.args.aggs.now c.args.options.now) bytes text line)
