@@ -16,7 +16,7 @@ keys_at-requires c =
     let rows = c.args.rows.now in
     let value : Bor Series → ColumnValue = λ lent. value_of lent.now in
     let all : All (λ (lent : Bor Series). HasRows rows (value lent)) keys = λ k d lt.
-        subst (HasRows rows) (get_or-map value keys k d (value d) lt) (c.requires.rows k (value d) (rw (length-map keys value) lt)) in
+    subst (HasRows rows) (get_or-map value keys k d (value d) lt) (c.requires.rows k (value d) (rw (length-map keys value) lt)) in
     let n = c.args.range.0 + c.args.range.1 - c.args.range.0 in
     All-map (HasRows rows) value (take n (drop c.args.range.0 keys))
     (All-take (λ (lent : Bor Series). HasRows rows (value lent)) n (drop c.args.range.0 keys) (All-drop (λ (lent : Bor Series). HasRows rows (value lent)) c.args.range.0 keys all))
