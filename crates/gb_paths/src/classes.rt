@@ -118,8 +118,9 @@ pub(crate) fn classes_of_keys<T: Threads + Sync, G: Gate + Sync>(
     gate: &G,
 ) -> PolarsResult<Classes>
     requires few { HasRowNumbers (rows_of_keys (seed_of pool.now) keys.now).count }
-    ensures ok { let rows = rows_of_keys (seed_of pool.now) keys.now in IfOk result (λ made.
-        grouping_of made ≡ path_groups (key_path_value path) rows 0 (partitions_of pool.now) sorted) }
+    ensures ok { let rows = rows_of_keys (seed_of pool.now) keys.now in
+        let parts = partitions_of pool.now in IfOk result (λ made.
+        grouping_of made ≡ path_groups (key_path_value path) rows 0 parts sorted) }
     ensures all { let rows = rows_of_keys (seed_of pool.now) keys.now in
         IfOk result (NumberAll by_numbers rows.count) }
     ensures err { IfErr result IsNoMemory }
