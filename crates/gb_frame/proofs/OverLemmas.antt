@@ -1,5 +1,5 @@
 -- What aggregates are made over.
-use Rattle.std.proofs.Common.{◌≡◌, ℕ, ◌<◌, All, Bool, true, List, [], ◌∷◌, Option, Some, length, refl, sym, ◌∙◌, subst}
+use Rattle.std.proofs.Common.{◌≡◌, ℕ, All, Bool, true, List, [], ◌∷◌, Some, length, refl, sym, ◌∙◌, subst}
 use Rattle.gb_agg.specs.Method.{goes_by_numbers, method_of}
 use Rattle.gb_agg.specs.Over.{NumberRows}
 use Rattle.gb_agg.specs.declared.method.GroupByMethod.{GroupByMethod}

@@ -1,5 +1,5 @@
 -- Keys in a form of their own stand for the slots of a column.
-use Rattle.std.proofs.Common.{◌≡◌, ◌==◌, inl, inr, ℕ, ℤ, pos, ◌<◌, Bool, true, false, List, [], ◌∷◌, length, map, All, Option, None, Some, MatchOption, refl, sym, ◌∙◌, ap, subst}
+use Rattle.std.proofs.Common.{◌≡◌, ◌==◌, inl, inr, ℕ, ℤ, pos, ◌<◌, true, false, List, [], ◌∷◌, length, map, All, Option, None, Some, MatchOption, refl, sym, ◌∙◌, ap, subst}
 use Rattle.std.specs.Bool.{Decides}
 use Rattle.std.specs.Borrow.{Bor}
 use Rattle.std.specs.Global.{Global}

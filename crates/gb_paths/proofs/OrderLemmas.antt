@@ -1,5 +1,5 @@
 -- Keys in the order that is found: what the order tells, and the groups by them.
-use Rattle.std.proofs.Common.{◌≡◌, ◌∙◌, ◌<◌, Bool, true, List, [], ◌∷◌, length, refl, arith}
+use Rattle.std.proofs.Common.{◌≡◌, ◌<◌, Bool, true, [], ◌∷◌, length, refl, arith}
 use Rattle.gb_defs.specs.Classes.{agree_by, groups, rows_below}
 use Rattle.gb_defs.specs.Column.{Ascending, ColumnValue, Descending, Frame, IsDetected, IsFlagTrue, NotSorted, SortedFlag, frame_height}
 use Rattle.gb_base.specs.Pool.{threshold_of, workers_of}

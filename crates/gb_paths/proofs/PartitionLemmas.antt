@@ -1,19 +1,13 @@
 -- The groups of partitions, united, and in the order of their first rows.
-use Rattle.std.proofs.Common.{◌≡◌, ℕ, ◌<◌, Bool, true, false, not, ◌&&◌, List, [], ◌∷◌, length, get_or, map, filter, refl, sym, ◌∙◌, ap, arith, nat_cmp, is_lt, inl, inr}
+use Rattle.std.proofs.Common.{◌≡◌, ℕ, ◌<◌, Bool, true, false, List, [], ◌∷◌, get_or, map, filter, refl, ◌∙◌, ap}
 use Rattle.std.specs.List.{flat_map, range_with_len, AllByRecursion}
-use Rattle.std.specs.List.Sorted.{IsNonDecreasing, IsNonDecreasingBy}
-use Rattle.std.proofs.lemmas.Bool.{cases_Bool}
-use Rattle.std.proofs.lemmas.Bool.Decides.{nat_tests}
 use Rattle.std.proofs.lemmas.Simd.{map-map}
-use Rattle.std.proofs.lemmas.List.{get_or-map, length-map}
 use Rattle.std.proofs.lemmas.List.Elements.{All-filter, All-from_recursion, recursion_from_All}
-use Rattle.std.proofs.lemmas.List.Sorted.{IsNonDecreasingBy-from_sort}
 use Rattle.smallvec.specs.SmallVec.{SmallVec}
-use Rattle.gb_defs.specs.Classes.{class, firsts, groups, is_first, rows_below}
-use Rattle.gb_defs.specs.Groups.{Grouping, Idx, first_of, idx_groups}
+use Rattle.gb_defs.specs.Classes.{firsts, groups, is_first, rows_below}
+use Rattle.gb_defs.specs.Groups.{Grouping, idx_groups}
 use Rattle.gb_defs.specs.Hash.{partition_of}
 use Rattle.gb_defs.specs.Partitions.{by_partition, in_partition, partition_groups}
-use Rattle.gb_defs.proofs.ClassesLemmas.{firsts_ascend}
 use Rattle.gb_defs.proofs.PartitionLemmas.{map_flat_map, partitions_united, picked_once}
 use Rattle.gb_groups.specs.Groups.{pairs_of}
 use Rattle.gb_groups.specs.Order.{IsByFirst}

@@ -1,5 +1,5 @@
 -- Rows of several keys: they agree as rows of one slot, and stand for their bytes.
-use Rattle.std.proofs.Common.{◌≡◌, ◌==◌, inl, inr, ℕ, zero, suc, ◌+◌, ◌<◌, ◌≤◌, Bool, true, false, not, ◌&&◌, List, [], ◌∷◌, ◌++◌, length, map, get_or, replicate, All, if◌then◌else◌, nat_lt, ◌||◌, refl, sym, ◌∙◌, ap, subst, arith}
+use Rattle.std.proofs.Common.{◌≡◌, ◌==◌, inl, inr, ℕ, ◌<◌, Bool, true, false, not, ◌&&◌, List, [], ◌∷◌, ◌++◌, length, get_or, replicate, All, if◌then◌else◌, refl, sym, ◌∙◌, ap, arith}
 use Rattle.std.specs.Borrow.{Bor}
 use Rattle.std.specs.Prelude.{IfOk, Result, Ok, Err}
 use Rattle.std.proofs.lemmas.Bool.{cases_Bool, eqb-true}
@@ -10,19 +10,19 @@ use Rattle.std.specs.List.{AllByRecursion}
 use Rattle.gb_defs.specs.Classes.{agree_by, groups, rows_below, same_slot}
 use Rattle.gb_defs.specs.Column.{ColumnValue, Frame, all_have_length, frame_height}
 use Rattle.gb_defs.specs.ColumnType.{ColumnType, Flat, ListOf, ArrayOf, StructOf, Null, Boolean, Unsigned, Signed, Decimal, Date, Time, Datetime, Duration, String, Binary, BinaryOffset, Categorical, Enum}
-use Rattle.gb_defs.specs.Groups.{Grouping, Slice}
+use Rattle.gb_defs.specs.Groups.{Slice}
 use Rattle.gb_defs.specs.Hash.{hash_of, seed_mix}
 use Rattle.gb_defs.specs.Path as path
 use Rattle.gb_defs.specs.RowBytes.{row_bytes}
 use Rattle.gb_defs.specs.Rows.{Rows, StandsFor, rows_of_slots, same_slot_at}
-use Rattle.gb_defs.specs.Slot.{Slot, Bytes, Items, Nil, items_of, slot_at, slot_eq, slots_eq}
+use Rattle.gb_defs.specs.Slot.{Slot, Bytes, Nil, slot_at, slot_eq}
 use Rattle.gb_defs.proofs.AnswerLemmas.{agree_one}
 use Rattle.gb_defs.proofs.ClassesLemmas.{groups_alike}
 use Rattle.gb_defs.proofs.PathLemmas.{path_groups_alike}
 use Rattle.gb_base.specs.Pool.{partitions_of, seed_of, threshold_of, workers_of}
 use Rattle.gb_base.specs.declared.pool.Pool.{Pool}
 use Rattle.gb_cols.specs.Null.{AreNulls}
-use Rattle.gb_flat_series.specs.Variant.{flat_variant, type_variant}
+use Rattle.gb_flat_series.specs.Variant.{type_variant}
 use Rattle.gb_series.specs.Variant as series
 use Rattle.gb_series.specs.Series.{value_of}
 use Rattle.gb_series.specs.declared.series.Series.{Series}
@@ -31,7 +31,7 @@ use Rattle.gb_rows.specs.Rows.{AreOfOneLength, row_slots}
 use Rattle.gb_rows.specs.Told.{AreToldByRows}
 use Rattle.gb_paths.specs.Keys.{null_rows}
 use Rattle.gb_defs.specs.Notes.{has_values, is_valued, path_by_keys, valued_keys}
-use Rattle.gb_paths.specs.Tuples.{IsNullUnlessValued, all_path, rows_of_all, slots_at, slots_of, tuples_by, tuples_of, tuples_of_bytes}
+use Rattle.gb_paths.specs.Tuples.{IsNullUnlessValued, all_path, rows_of_all, slots_at, slots_of, tuples_by, tuples_of_bytes}
 use Rattle.gb_paths.proofs.KeyFormLemmas.{parts_by_variant}
 use Rattle.gb_paths.proofs.RowBytesLemmas.{row_at, rows_many}
 use Rattle.gb_paths.proofs.RunLemmas.{null_at}

@@ -1,19 +1,19 @@
 -- The groups of rows by codes are the lists of rows by the numbers of their codes.
-use Rattle.std.proofs.Common.{◌≡◌, ◌∙◌, ℕ, ℤ, zero, suc, pos, negsuc, ◌+◌, ◌<◌, ◌≤◌, eqb, Bool, true, false, not, cond, ◌&&◌, ◌||◌, inl, inr, nat_le, nat_lt, List, [], ◌∷◌, ◌++◌, All, IsTrue, ◌↔◌, length, map, filter, take, zip, get_or, refl, sym, ap, subst, arith}
+use Rattle.std.proofs.Common.{◌≡◌, ◌∙◌, ℕ, zero, suc, pos, ◌+◌, ◌<◌, ◌≤◌, eqb, Bool, true, false, not, cond, ◌&&◌, ◌||◌, inl, inr, nat_le, nat_lt, List, [], ◌∷◌, ◌++◌, All, IsTrue, ◌↔◌, length, map, filter, take, zip, get_or, refl, sym, ap, subst, arith}
 use Rattle.std.specs.List.{flat_map, list_any, range_with_len, AllByRecursion, IsDistinct}
 use Rattle.std.specs.List.Sorted.{IsNonDecreasing}
 use Rattle.std.proofs.lemmas.Bool.{and_parts, cases_Bool, cases_eq, cases_lt, eq-eqb, le-leb, le-ltb, leb-true, lt-ltb, ne_eqb, true≢false}
 use Rattle.std.proofs.lemmas.Bool.Decides.{Decides-int_eq}
 use Rattle.std.proofs.lemmas.List.{append-nil, append_assoc, get_or-map, length-append, length-map, map-append, map-id}
 use Rattle.std.proofs.lemmas.List.Elements.{All-filter, All-from_recursion, filter-append, filter_passes}
-use Rattle.std.proofs.lemmas.List.FromFn.{fill_by_all, get_or-map-range_with_len, length-map-range_with_len, length-range_with_len, map-range_with_len_more}
+use Rattle.std.proofs.lemmas.List.FromFn.{fill_by_all, length-map-range_with_len, map-range_with_len_more}
 use Rattle.std.proofs.lemmas.List.Concat.{flat_map-cons}
 use Rattle.std.proofs.lemmas.Simd.{map-map}
 use Rattle.std.proofs.lemmas.Map.Made.{length-le_from_is_member}
 use Rattle.gb_defs.specs.Classes.{class, firsts, groups, is_first, rows_below}
 use Rattle.gb_defs.specs.Groups.{Grouping, first_of, idx_groups}
 use Rattle.gb_defs.specs.Path.{Perfect, ascends, by_code, code_groups, path_groups}
-use Rattle.gb_defs.specs.Rows.{Rows, same_slot_at}
+use Rattle.gb_defs.specs.Rows.{same_slot_at}
 use Rattle.gb_defs.specs.Slot.{Slot, Nil, Num, Bytes, Items, is_nil, slot_at, slot_eq}
 use Rattle.gb_defs.proofs.ClassesLemmas.{all_from_below, filter_agree_on, firsts_ascend, rows_below_all}
 use Rattle.gb_defs.proofs.PartitionLemmas.{flat_map_same, map_flat_map}

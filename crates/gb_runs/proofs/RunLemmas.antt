@@ -1,22 +1,21 @@
 -- The runs of rows whose equal slots stand together are their groups.
-use Rattle.std.proofs.Common.{◌≡◌, ◌∙◌, ℕ, zero, suc, ◌+◌, ◌-◌, ◌<◌, ◌≤◌, ◌^◌, Bool, true, false, not, cond, ◌&&◌, ◌++◌, inl, inr, nat_lt, List, [], ◌∷◌, All, Option, Some, None, length, map, filter, get_or, refl, sym, ap, subst, arith}
-use Rattle.std.specs.List.{list_any, range_with_len, AllByRecursion}
+use Rattle.std.proofs.Common.{◌≡◌, ◌∙◌, ℕ, zero, suc, ◌+◌, ◌-◌, ◌<◌, ◌≤◌, ◌^◌, Bool, true, false, not, cond, ◌&&◌, ◌++◌, inl, inr, nat_lt, List, [], ◌∷◌, length, map, filter, get_or, refl, sym, ap, subst, arith}
+use Rattle.std.specs.List.{list_any, range_with_len}
 use Rattle.std.specs.List.Sorted.{IsNonDecreasing}
-use Rattle.std.proofs.lemmas.Bool.{and_parts, cases_Bool, cases_eq, cases_lt, le-ltb, lt-ltb, ltb-true, true≢false}
+use Rattle.std.proofs.lemmas.Bool.{cases_Bool, cases_eq, cases_lt, le-ltb, lt-ltb, ltb-true, true≢false}
 use Rattle.std.proofs.lemmas.List.{get_or-map, length-map}
 use Rattle.std.proofs.lemmas.List.Elements.{All-map, filter-append}
 use Rattle.std.proofs.lemmas.List.FromFn.{fill_by_all, get_or-range_with_len, length-range_with_len}
 use Rattle.std.proofs.lemmas.Simd.{map-map}
 use Rattle.gb_defs.specs.Classes.{class, firsts, groups, is_first, rows_below}
-use Rattle.gb_defs.specs.Groups.{Grouping, Slice}
+use Rattle.gb_defs.specs.Groups.{Slice}
 use Rattle.gb_defs.specs.Path.{run_groups}
 use Rattle.gb_defs.specs.Rows.{Rows, same_slot_at}
-use Rattle.gb_defs.specs.Slot.{Slot, slot_eq}
 use Rattle.gb_defs.proofs.ClassesLemmas.{filter_agree_on, all_from_below, firsts_ascend, firsts_below, rows_below_all}
 use Rattle.gb_defs.proofs.SlotLemmas.{slot_eq_equiv}
 use Rattle.gb_flat.proofs.RangeLemmas.{range_more}
 use Rattle.gb_groups.specs.Slices.{SlicesFit, length_of, slice_groups, slice_pair, slice_pairs, start_of}
-use Rattle.gb_runs.specs.Runs.{AreStarts, StandTogether, begins_run, run_at, run_starts, runs_to, slot_before, starts_in}
+use Rattle.gb_runs.specs.Runs.{AreStarts, StandTogether, begins_run, run_at, run_starts, runs_to, starts_in}
 
 -- ---- numbers that pass a test from one to another
 

@@ -1,5 +1,5 @@
 -- Slots that are in order stand together where they are the same.
-use Rattle.std.proofs.Common.{◌≡◌, ◌∙◌, ℕ, ◌<◌, ◌≤◌, ℤ, Bool, true, false, not, inl, inr, List, length, All, refl, sym, ap, arith}
+use Rattle.std.proofs.Common.{◌≡◌, ◌∙◌, ℕ, ◌<◌, ◌≤◌, ℤ, true, false, not, inl, inr, List, length, All, refl, sym, ap, arith}
 use Rattle.std.specs.Bool.{IsTrue}
 use Rattle.std.specs.Cmp.Lexicographic.{slice_cmp}
 use Rattle.std.specs.FinMap.{int_cmp-IsAntisymmetric, nat_cmp-IsAntisymmetric, slice_cmp-IsAntisymmetric}
@@ -10,9 +10,8 @@ use Rattle.std.proofs.lemmas.Bool.{cases_Bool, true≢false}
 use Rattle.std.proofs.lemmas.Cmp.{int_cmp_total, nat_list_cmp_total, tied_itself}
 use Rattle.gb_defs.specs.Column.{Ascending, Descending, HasNullsAtOneEnd, IsAscending, IsDescending, IsFlagTrue, NotSorted, SortedFlag, may_be_sorted}
 use Rattle.gb_defs.specs.ColumnType.{ColumnType, FlatType, Flat, ListOf, ArrayOf, StructOf, Fits, FitsBytes, FitsNumber, Null, Boolean, Unsigned, Signed, Decimal, Date, Time, Datetime, Duration, String, Binary, BinaryOffset, Categorical, Enum}
-use Rattle.gb_defs.specs.Order.{ByCode, below, bytes_below}
+use Rattle.gb_defs.specs.Order.{ByCode, below}
 use Rattle.gb_defs.specs.Path.{is_flagged}
-use Rattle.gb_defs.specs.Rows.{Rows, same_slot_at}
 use Rattle.gb_defs.specs.Slot.{Slot, Nil, Num, Bytes, Items, is_nil, slot_at, slot_eq}
 use Rattle.gb_defs.proofs.SlotLemmas.{Decides-slot_eq}
 use Rattle.gb_values.proofs.SlotOrderLemmas.{bytes_cmp_gt, bytes_cmp_lt, int_cmp_gt, int_cmp_lt, no_parts, number_below}

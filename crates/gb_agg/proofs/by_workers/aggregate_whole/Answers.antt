@@ -1,9 +1,9 @@
-use Rattle.std.proofs.Common.{◌≤◌, ◌∙◌, ap, sym, subst, arith}
+use Rattle.std.proofs.Common.{◌≤◌, ◌∙◌, ap, arith}
 use Rattle.std.proofs.lemmas.Result.{IfOk-weaker}
 use Rattle.gb_defs.specs.Column.{content}
 use Rattle.gb_defs.specs.Groups.{Grouping, lists_in}
 use Rattle.gb_series.specs.Series.{value_of}
-use Rattle.gb_agg.specs.Folds.{AreGroupsOf, folded}
+use Rattle.gb_agg.specs.Folds.{folded}
 use Rattle.gb_agg.specs.Method.{method_of}
 use Rattle.gb_agg.proofs.GroupPartLemmas.{none_few, parts_alike, parts_few, parts_joined}
 use Rattle.gb_agg.proofs.by_workers.aggregate_whole.Goals as goal

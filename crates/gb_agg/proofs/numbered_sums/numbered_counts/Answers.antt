@@ -1,4 +1,4 @@
-use Rattle.std.proofs.Common.{◌≡◌, ◌∙◌, ap, arith, map, pos}
+use Rattle.std.proofs.Common.{◌∙◌, ap, arith, map, pos}
 use Rattle.gb_defs.specs.Column.{fresh_column}
 use Rattle.gb_defs.specs.ColumnType.{uint32}
 use Rattle.gb_defs.specs.Slot.{Num}

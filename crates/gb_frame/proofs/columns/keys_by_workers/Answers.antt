@@ -1,4 +1,4 @@
-use Rattle.std.proofs.Common.{◌≡◌, ◌∙◌, List, Vec, Global, ap, arith, map, sym}
+use Rattle.std.proofs.Common.{◌∙◌, Vec, Global, ap, arith, sym}
 use Rattle.std.specs.Borrow.{Bor}
 use Rattle.std.proofs.lemmas.Simd.{map-map}
 use Rattle.gb_defs.specs.Column.{ColumnValue, content, taken}

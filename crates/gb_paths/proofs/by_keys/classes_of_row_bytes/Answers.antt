@@ -1,15 +1,8 @@
 use Rattle.std.proofs.Common.{◌∙◌, ap, length, subst, sym}
-use Rattle.std.specs.Int.{w64}
 use Rattle.std.proofs.lemmas.Result.{IfOk-weaker}
-use Rattle.gb_defs.specs.Column.{frame_height}
 use Rattle.gb_defs.specs.Groups.{Grouping, HasRowNumbers, IsWellFormed}
-use Rattle.gb_defs.specs.Hash.{seed_mix}
-use Rattle.gb_defs.specs.Path.{hashed_path}
-use Rattle.gb_defs.specs.Rows.{rows_of_slots}
-use Rattle.gb_base.specs.Pool.{partitions_of, seed_of, threshold_of, workers_of}
 use Rattle.gb_paths.specs.Classes.{NumberAll, grouping_of}
 use Rattle.gb_rows.specs.Lent.{keys_in}
-use Rattle.gb_rows.specs.Rows.{row_slots}
 use Rattle.gb_paths.proofs.FormLemmas.{path_formed}
 use Rattle.gb_paths.proofs.RowBytesLemmas.{rows_many}
 use Rattle.gb_paths.proofs.by_keys.classes_of_row_bytes.Goals as goal

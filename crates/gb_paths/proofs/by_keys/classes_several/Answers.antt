@@ -1,4 +1,4 @@
-use Rattle.std.proofs.Common.{rules, ◌≡◌, ◌∙◌, ◌<◌, ℕ, [], ap, arith, length, subst, sym, true}
+use Rattle.std.proofs.Common.{rules, ◌≡◌, ◌∙◌, ◌<◌, [], ap, arith, length, subst, sym, true}
 use Rattle.std.proofs.lemmas.List.{length-map}
 use Rattle.gb_defs.specs.Column.{frame_height}
 use Rattle.gb_defs.specs.Groups.{IsWellFormed}

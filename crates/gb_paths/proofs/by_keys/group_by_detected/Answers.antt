@@ -1,1 +1,0 @@
-use Rattle.gb_paths.proofs.by_keys.group_by_detected.Goals as goal

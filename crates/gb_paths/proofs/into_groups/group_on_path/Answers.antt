@@ -1,6 +1,6 @@
 use Rattle.std.proofs.Common.{◌≡◌, ◌∙◌, ap, sym}
 use Rattle.std.proofs.lemmas.Result.{IfOk-weaker}
-use Rattle.gb_defs.specs.Path.{Path, Nulls, Perfect, Sorted, run_groups}
+use Rattle.gb_defs.specs.Path.{Nulls, Perfect, Sorted, run_groups}
 use Rattle.gb_paths.specs.Keys.{null_rows}
 use Rattle.gb_paths.specs.Tuples.{column_path, ordered, path_value, tuples_on}
 use Rattle.gb_paths.proofs.ChoiceLemmas.{nulls_told, runs_told}

@@ -1,11 +1,8 @@
-use Rattle.std.proofs.Common.{◌≡◌, ◌∙◌, ◌==◌, ◌||◌, true, false, List, ap, cond, length, subst, sym}
+use Rattle.std.proofs.Common.{◌≡◌, ◌∙◌, ◌==◌, ◌||◌, true, false, ap, length, sym}
 use Rattle.std.proofs.lemmas.Bool.{ne_eqb}
-use Rattle.std.proofs.lemmas.Result.{IfOk-weaker}
-use Rattle.gb_defs.specs.Slot.{Slot}
-use Rattle.gb_runs.specs.Codes.{AreCodes}
 use Rattle.gb_paths.specs.Keys.{AreCodesOf}
 use Rattle.gb_paths.proofs.ChoiceLemmas.{codes_used}
-use Rattle.gb_paths.proofs.TupleLemmas.{code_tuples, no_tuples}
+use Rattle.gb_paths.proofs.TupleLemmas.{no_tuples}
 use Rattle.gb_paths.proofs.into_groups.group_perfect.Goals as goal
 
 pub returns-then-len-eq0-clause-ok : goal.returns-then-len-eq0-clause-ok

@@ -1,6 +1,6 @@
 use Rattle.std.proofs.Common.{◌≡◌, ◌∙◌, ap, sym}
 use Rattle.std.proofs.lemmas.Result.{IfOk-weaker}
-use Rattle.gb_defs.specs.Path.{Path, Sorted}
+use Rattle.gb_defs.specs.Path.{Sorted}
 use Rattle.gb_series.specs.Series.{value_of}
 use Rattle.gb_paths.specs.Tuples.{column_path, ordered, path_value, tuples_on}
 use Rattle.gb_paths.proofs.ChoiceLemmas.{runs_told}

@@ -1,4 +1,4 @@
-use Rattle.std.proofs.Common.{◌≡◌, ◌++◌, ◌∷◌, [], arith, false, ap, ◌∙◌, sym}
+use Rattle.std.proofs.Common.{◌++◌, ◌∷◌, [], false, ap, ◌∙◌}
 use Rattle.gb_groups.specs.Slices.{slice_groups}
 use Rattle.gb_paths.proofs.RunLemmas.{no_run, one_run, run_formed}
 use Rattle.gb_paths.proofs.into_groups.one_run.Goals as goal

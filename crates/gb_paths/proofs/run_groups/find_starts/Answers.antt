@@ -1,4 +1,4 @@
-use Rattle.std.proofs.Common.{◌≡◌, ◌∙◌, ap, arith}
+use Rattle.std.proofs.Common.{◌∙◌, ap, arith}
 use Rattle.gb_flat.proofs.RangeLemmas.{ranges_filtered}
 use Rattle.gb_runs.specs.Codes.{rows_in}
 use Rattle.gb_runs.specs.Runs.{begins_run, run_starts}

@@ -1,4 +1,4 @@
-use Rattle.std.proofs.Common.{◌∙◌, arith, sym}
+use Rattle.std.proofs.Common.{◌∙◌, sym}
 use Rattle.gb_defs.specs.Slot.{Nil, slot_at}
 use Rattle.gb_runs.proofs.TogetherLemmas.{below_differ, else_differ}
 use Rattle.gb_runs.proofs.runs.valid_differ.Goals as goal

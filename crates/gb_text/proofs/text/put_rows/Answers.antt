@@ -1,4 +1,4 @@
-use Rattle.std.proofs.Common.{[], List, ℕ, ◌+◌, subst}
+use Rattle.std.proofs.Common.{[], List, ℕ, subst}
 use Rattle.gb_defs.specs.Text.{row_line}
 use Rattle.gb_text.specs.Text.{HasBegun, contents_of}
 use Rattle.gb_text.proofs.TextLemmas.{row_more}

@@ -1,7 +1,6 @@
 use Rattle.std.proofs.Common.{◌≡◌, ◌∙◌, ap, length, ℕ, sym, subst, true, Some}
-use Rattle.std.specs.List.{All}
 use Rattle.gb_defs.specs.Fault.{sums_flat}
-use Rattle.gb_defs.specs.Groups.{AreMembers, lists_in}
+use Rattle.gb_defs.specs.Groups.{lists_in}
 use Rattle.gb_base.specs.PlSmallStr.{name_of}
 use Rattle.gb_agg.proofs.FoldingLemmas.{logical_sums}
 use Rattle.gb_agg.proofs.group_sums.LogicalGroupSums.group_sums.Goals as goal

@@ -1,4 +1,4 @@
-use Rattle.std.proofs.Common.{◌≡◌, ◌∙◌, ap, arith, length, map, pos, sym}
+use Rattle.std.proofs.Common.{◌∙◌, ap, arith, length, map, pos, sym}
 use Rattle.std.proofs.lemmas.List.FromFn.{length-range_with_len}
 use Rattle.gb_defs.specs.Column.{fresh_column}
 use Rattle.gb_defs.specs.ColumnType.{Boolean, Flat, uint32}

@@ -1,4 +1,4 @@
-use Rattle.std.proofs.Common.{◌≡◌, ◌∙◌, ap, arith, length, map, sym}
+use Rattle.std.proofs.Common.{◌∙◌, ap, arith, length, map, sym}
 use Rattle.std.proofs.lemmas.List.FromFn.{length-range_with_len}
 use Rattle.gb_defs.specs.Column.{fresh_column}
 use Rattle.gb_defs.specs.ColumnType.{Flat}

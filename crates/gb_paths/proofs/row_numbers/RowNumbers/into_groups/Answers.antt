@@ -1,4 +1,4 @@
-use Rattle.std.proofs.Common.{◌∙◌, ap, arith, length, sym}
+use Rattle.std.proofs.Common.{ap, arith, length}
 use Rattle.std.proofs.lemmas.List.FromFn.{length-range_with_len}
 use Rattle.gb_paths.proofs.MemberLemmas.{as_many}
 use Rattle.gb_paths.proofs.row_numbers.RowNumbers.into_groups.Goals as goal

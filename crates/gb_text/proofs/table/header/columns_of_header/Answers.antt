@@ -1,4 +1,4 @@
-use Rattle.std.proofs.Common.{◌≡◌, ◌∙◌, ◌+◌, suc, ℕ, List, Some, sym, ap, true, cond, arith}
+use Rattle.std.proofs.Common.{◌≡◌, ◌∙◌, ◌+◌, suc, Some, sym, ap, true, arith}
 use Rattle.std.specs.List.{list_any}
 use Rattle.std.specs.Str.{bytes_eq}
 use Rattle.csv.specs.Records.{fields_of}

@@ -1,4 +1,4 @@
-use Rattle.std.proofs.Common.{◌≡◌, ℕ, Bool, List, Bor}
+use Rattle.std.proofs.Common.{◌≡◌, ℕ, Bool, List}
 use Rattle.csv.specs.Records.{Row, fields_of}
 use Rattle.gb_text.specs.Asked.{is_asked, names_in}
 use Rattle.gb_text.specs.Building.{Building}
