@@ -5,6 +5,7 @@ pub mod HashLemmas
 pub mod JoinLemmas
 pub mod KeyFormLemmas
 pub mod KeyLemmas
+pub mod LeaderLemmas
 pub mod MemberLemmas
 pub mod NumberingLemmas
 pub mod OrderLemmas

@@ -155,7 +155,7 @@ not_true false h = refl
 
 module _ (agree : ℕ → ℕ → Bool) where
   -- those before a first row that agree with it
-  abbrev before_it : ℕ → ℕ → Bool
+  abbrev pub before_it : ℕ → ℕ → Bool
   before_it x j = nat_lt j x && agree x j
 
   kept_first : (rows zs : List ℕ) → AllByRecursion (λ x. is_first agree rows x ≡ true) zs → AllByRecursion (λ x. is_first agree (firsts agree rows) x ≡ true) zs
@@ -220,7 +220,7 @@ map_places : {X : Type 0} (f : ℕ → X) (xs : List ℕ) → map (λ k. f (get_
 map_places f [] = refl
 map_places f (x ∷ xs) = ap (λ ys. f x ∷ ys) (range_moved (λ k. f (get_or (x ∷ xs) k 0)) 0 (length xs) ∙ map_places f xs)
 
-any_at : {A : Type 0} (p : A → Bool) (xs : List A) (i : ℕ) (d : A) → i < length xs → p (get_or xs i d) ≡ true → list_any p xs ≡ true
+pub any_at : {A : Type 0} (p : A → Bool) (xs : List A) (i : ℕ) (d : A) → i < length xs → p (get_or xs i d) ≡ true → list_any p xs ≡ true
 any_at p [] i d lt h = absurd (omega (arith, lt))
 any_at p (x ∷ xs) zero d lt h = rw h refl
 any_at p (x ∷ xs) (suc i) d lt h = rw (any_at p xs i d (omega (arith, lt)) h) (or_right' (p x))

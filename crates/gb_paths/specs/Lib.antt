@@ -1,6 +1,7 @@
 pub mod Classes
 pub mod Hashes
 pub mod Keys
+pub mod Leaders
 pub mod Numbering
 pub mod Numbers
 pub mod Partitions

@@ -1,16 +1,17 @@
 //! Rows by their keys: as groups, or as the number of each row's group, from which what is made of a group's
 //! slots one after another is made without a list of its rows.
 
-ghost use Rattle.std.specs.Prelude.{◌≡◌, ◌≢◌, length, map, IfErr, IfOk, IfSome};
+ghost use Rattle.std.specs.Prelude.{◌≡◌, ◌≢◌, length, map, IfErr, IfOk};
+ghost use Rattle.gb_defs.specs.Classes.{rows_below};
 ghost use Rattle.gb_defs.specs.Groups.{HasRowNumbers, first_of};
 ghost use Rattle.gb_defs.specs.Path.{NoValues, kind_of, path_groups};
 ghost use Rattle.gb_base.specs.PlSmallStr.{IsNoMemory};
 ghost use Rattle.gb_base.specs.Pool.{partitions_of, seed_of};
 ghost use Rattle.gb_groups.specs.GroupsType.{groups_of};
 ghost use Rattle.gb_hash.specs.Keys.{key_slots};
-ghost use Rattle.gb_paths.specs.Classes.{AreNumbersBy, NumberAll, grouping_of};
+ghost use Rattle.gb_paths.specs.Classes.{NumberAll, grouping_of};
 ghost use Rattle.gb_paths.specs.Keys.{byte_rows, rows_of_keys};
-ghost use Rattle.gb_paths.specs.Numbering.{numbered};
+ghost use Rattle.gb_paths.specs.Numbering.{AreNumbersAmong, numbered};
 ghost use Rattle.gb_paths.specs.Tuples.{key_path_value, tuples_on};
 
 use crate::into_groups::group_keys;
@@ -105,8 +106,8 @@ pub(crate) fn classes_by_path<T: Threads + Sync, C: KeyColumn, G: Gate + Sync>(
     }
 }
 
-/// The groups of rows by keys in any form. By numbers, where these are wanted, if they are to be in the order of
-/// their first rows, and `number_rows` gives them.
+/// The groups of rows by keys in any form: by numbers, where these are wanted and the groups are to be in the
+/// order of their first rows.
 pub(crate) fn classes_of_keys<T: Threads + Sync, G: Gate + Sync>(
     rt: &T,
     alloc: Global,
@@ -126,32 +127,30 @@ pub(crate) fn classes_of_keys<T: Threads + Sync, G: Gate + Sync>(
     ensures err { IfErr result IsNoMemory }
 {
     if by_numbers && sorted {
-        if let Some(numbers) = number_keys(rt, alloc, keys, path, pool)? {
-            return Ok(Classes::Numbers(numbers));
-        }
+        let numbers = number_keys(rt, alloc, keys, pool)?;
+        return Ok(Classes::Numbers(numbers));
     }
     let groups = group_keys(rt, alloc, keys, path, sorted, pool, gate)?;
     Ok(Classes::Groups(groups))
 }
 
-// The numbers of the groups of rows by keys in any form, if `number_rows` gives them.
+// The numbers of the groups of rows by keys in any form.
 fn number_keys<T: Threads + Sync>(
     rt: &T,
     alloc: Global,
     keys: &Keys<'_>,
-    path: KeyPath,
     pool: &Pool,
-) -> PolarsResult<Option<RowNumbers>>
+) -> PolarsResult<RowNumbers>
     requires few { HasRowNumbers (rows_of_keys (seed_of pool.now) keys.now).count }
     ensures ok { let rows = rows_of_keys (seed_of pool.now) keys.now in
-        IfOk result (λ found. IfSome found (AreNumbersBy path rows pool.now)) }
+        IfOk result (AreNumbersAmong rows (rows_below rows.count)) }
     ensures err { IfErr result IsNoMemory }
 {
     let mixer = SeedMixer::new(pool.seed());
     with_rows!(
         keys, mixer,
-        rows => number_rows(rt, alloc, &rows, path, pool),
-        bytes => number_bytes(rt, alloc, bytes, path, pool)
+        rows => number_rows(rt, alloc, &rows, pool),
+        bytes => number_bytes(rt, alloc, bytes, pool)
     )
 }
 
@@ -160,24 +159,23 @@ fn number_bytes<T: Threads + Sync>(
     rt: &T,
     alloc: Global,
     bytes: &BinaryOffsetChunked,
-    path: KeyPath,
     pool: &Pool,
-) -> PolarsResult<Option<RowNumbers>>
+) -> PolarsResult<RowNumbers>
     requires few { HasRowNumbers (length bytes.now.slots) }
     ensures ok { let rows = byte_rows (seed_of pool.now) bytes.now.slots in
-        IfOk result (λ found. IfSome found (AreNumbersBy path rows pool.now)) }
+        IfOk result (AreNumbersAmong rows (rows_below rows.count)) }
     ensures err { IfErr result IsNoMemory }
 {
     let mixer = SeedMixer::new(pool.seed());
     match byte_chunks(bytes)? {
         Some(chunks) => {
             let rows = ChunkRows::new(&chunks, mixer);
-            number_rows(rt, alloc, &rows, path, pool)
+            number_rows(rt, alloc, &rows, pool)
         }
         None => {
             let slices = bytes.byte_slices()?;
             let rows = ListRows::new(slices.as_slice(), mixer);
-            number_rows(rt, alloc, &rows, path, pool)
+            number_rows(rt, alloc, &rows, pool)
         }
     }
 }

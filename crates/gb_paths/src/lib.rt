@@ -10,6 +10,8 @@ pub mod classes;
 pub mod group_by;
 pub mod into_groups;
 pub mod keys;
+mod leaders;
+mod number_partitions;
 mod number_rows;
 pub mod path;
 mod plain_words;

@@ -5,14 +5,14 @@ ghost use Rattle.std.specs.Prelude.{◌≡◌, ◌+◌, ◌++◌, ◌<◌, ◌�
 ghost use Rattle.std.specs.List.{range_with_len};
 ghost use Rattle.gb_defs.specs.Classes.{rows_below};
 ghost use Rattle.gb_defs.specs.Groups.{AreMembers, HasRowNumbers};
+ghost use Rattle.gb_defs.specs.Rows.{AreHashes};
 ghost use Rattle.gb_base.specs.PlSmallStr.{IsNoMemory};
-ghost use Rattle.gb_paths.specs.Classes.{AreNumbersBy};
 ghost use Rattle.gb_paths.specs.Numbering.{AreNumbersAmong, firsts_in, renumbered};
 
-use crate::path::KeyPath;
+use crate::number_partitions::number_by_partitions;
 use crate::range_rows::RangeRows;
 use crate::row_groups::number_groups;
-use crate::row_hashes::AskedHashes;
+use crate::row_hashes::{AskedHashes, RowHashes};
 use crate::row_numbers::RowNumbers;
 use gb_base::error::PolarsResult;
 use gb_base::nullable_idx::IdxSize;
@@ -28,31 +28,34 @@ use std::thread::Threads;
 /// For fewer rows a worker no thread is started.
 const SHARE_ROWS: usize = 65_536;
 
+/// For fewer rows one table is small enough.
+const PARTED_ROWS: usize = 131_072;
+
 /// So many rows tell whether groups are few: a guess at what takes a hundredth of the time of a grouping.
 const SAMPLE_ROWS: usize = 16_384;
 
-/// The numbers of rows' groups by a path, or none where there are likely so many groups that partitions take
-/// less.
+/// The numbers of rows' groups: by one table, by one a worker, or, where there are likely many groups, by one a
+/// partition.
 pub(crate) fn number_rows<T: Threads + Sync, R: KeyRows>(
     rt: &T,
     alloc: Global,
     rows: &R,
-    path: KeyPath,
     pool: &Pool,
-) -> PolarsResult<Option<RowNumbers>>
+) -> PolarsResult<RowNumbers>
     requires few { HasRowNumbers (R.rows rows.now).count }
-    ensures ok { IfOk result (λ found.
-        IfSome found (AreNumbersBy path (R.rows rows.now) pool.now)) }
+    ensures ok { let rows = R.rows rows.now in
+        IfOk result (AreNumbersAmong rows (rows_below rows.count)) }
     ensures err { IfErr result IsNoMemory }
 {
-    match path {
-        KeyPath::Table => Ok(Some(number_all(alloc, rows)?)),
-        KeyPath::Threaded => {
-            if has_many_groups(alloc, rows)? {
-                return Ok(None);
-            }
-            Ok(Some(number_by_workers(rt, alloc, rows, pool)?))
-        }
+    if rows.len() >= PARTED_ROWS && has_many_groups(alloc, rows)? {
+        let numbers = number_by_partitions(rt, alloc, rows, pool)?;
+        return Ok(numbers);
+    }
+    let workers = pool.workers().min(rows.len() / SHARE_ROWS);
+    if workers > 1 {
+        number_by_workers(rt, alloc, rows, workers)
+    } else {
+        number_all(alloc, rows)
     }
 }
 
@@ -83,15 +86,15 @@ fn number_by_workers<T: Threads + Sync, R: KeyRows>(
     rt: &T,
     alloc: Global,
     rows: &R,
-    pool: &Pool,
+    workers: usize,
 ) -> PolarsResult<RowNumbers>
+    requires some { 1 ≤ workers }
     requires few { HasRowNumbers (R.rows rows.now).count }
     ensures ok { let rows = R.rows rows.now in
         IfOk result (AreNumbersAmong rows (rows_below rows.count)) }
     ensures err { IfErr result IsNoMemory }
 {
     let count = rows.len();
-    let workers = pool.workers().min(count / SHARE_ROWS).max(1);
     let part = |range: (usize, usize)|
         requires { (range.0 + range.1 ≤ (R.rows rows.now).count)
             × HasRowNumbers (R.rows rows.now).count }
@@ -135,27 +138,45 @@ fn number_members<R: KeyRows, M: Members>(
     ensures ok { IfOk result (AreNumbersAmong (R.rows rows.now) (M.listed members.now)) }
     ensures err { IfErr result IsNoMemory }
 {
-    // The counter is for proofs alone and takes no memory: `Brand` is its name, and it is in one part.
-    number_blank::<R, M, Brand>(alloc, rows, members, Blank::new(1))
+    number_hashed(alloc, rows, members, &AskedHashes { rows })
 }
 
-// The same with a counter of its own.
-fn number_blank<R: KeyRows, M: Members, L: Ledger>(
+/// The numbers of the groups of some rows among themselves, by hashes of all rows.
+pub(crate) fn number_hashed<R: KeyRows, M: Members, H: RowHashes>(
     alloc: Global,
     rows: &R,
     members: &M,
+    hashes: &H,
+) -> PolarsResult<RowNumbers>
+    requires few { HasRowNumbers (R.rows rows.now).count }
+    requires members { AreMembers (length (H.hashes hashes.now)) (M.listed members.now) }
+    requires hashes { AreHashes (R.rows rows.now) 0 (H.hashes hashes.now) }
+    ensures ok { IfOk result (AreNumbersAmong (R.rows rows.now) (M.listed members.now)) }
+    ensures err { IfErr result IsNoMemory }
+{
+    // The counter is for proofs alone and takes no memory: `Brand` is its name, and it is in one part.
+    number_blank::<R, M, H, Brand>(alloc, rows, members, hashes, Blank::new(1))
+}
+
+// The same with a counter of its own.
+fn number_blank<R: KeyRows, M: Members, H: RowHashes, L: Ledger>(
+    alloc: Global,
+    rows: &R,
+    members: &M,
+    hashes: &H,
     blank: Blank,
 ) -> PolarsResult<RowNumbers>
     requires name { blank.name ≡ L.name }
     requires parts { blank.parts ≡ L.parts }
     requires some { 0 < L.parts }
     requires few { HasRowNumbers (R.rows rows.now).count }
-    requires members { AreMembers (R.rows rows.now).count (M.listed members.now) }
+    requires members { AreMembers (length (H.hashes hashes.now)) (M.listed members.now) }
+    requires hashes { AreHashes (R.rows rows.now) 0 (H.hashes hashes.now) }
     ensures ok { IfOk result (AreNumbersAmong (R.rows rows.now) (M.listed members.now)) }
     ensures err { IfErr result IsNoMemory }
 {
     let mut steps: Steps<L> = Steps::new(blank);
-    let found = number_groups(alloc, rows, members, &AskedHashes { rows }, &mut steps)?;
+    let found = number_groups(alloc, rows, members, hashes, &mut steps)?;
     Ok(RowNumbers {
         first: found.first,
         of_rows: found.of_rows,

@@ -3,16 +3,9 @@ use Rattle.std.specs.Cmp.{on_equiv}
 use Rattle.std.proofs.lemmas.List.Elements.{recursion_from_All}
 use Rattle.gb_defs.specs.Rows.{same_slot_at}
 use Rattle.gb_defs.proofs.SlotLemmas.{slot_eq_equiv}
-use Rattle.gb_paths.proofs.HashLemmas.{below_hashed, below_long}
 use Rattle.gb_paths.proofs.MemberLemmas.{few_members}
 use Rattle.gb_paths.proofs.NumberingLemmas.{numbers_told}
 use Rattle.gb_paths.proofs.number_rows.number_blank.Goals as goal
-
-pub number_groups-requires-clause-members : goal.number_groups-requires-clause-members
-number_groups-requires-clause-members g c κs within = rw (below_long (g.R.KeyRows.rows c.args.rows.now)) c.requires.members
-
-pub number_groups-requires-clause-hashes : goal.number_groups-requires-clause-hashes
-number_groups-requires-clause-hashes g c κs within = below_hashed (g.R.KeyRows.rows c.args.rows.now)
 
 pub returns-clause-ok : goal.returns-clause-ok
 returns-clause-ok g c =
@@ -25,4 +18,4 @@ returns-clause-ok g c =
 pub invariant_of-result-clause-few : goal.invariant_of-result-clause-few
 invariant_of-result-clause-few g c =
     let rows = few_members _ _ c.requires.members in
-    omega (arith, rows, c.in_ok-found.ensures.each, c.requires.few)
+    omega (arith, rows, c.in_ok-found.ensures.each, c.requires.hashes.within, c.requires.few)

@@ -16,7 +16,7 @@ pub number_members-requires-clause-members : goal.number_members-requires-clause
 number_members-requires-clause-members g c κs within =
     let rows = g.R.KeyRows.rows c.args.rows.now in
     let parts = c.in_ok-parts.parts.items in
-    let members = parts_members (same_slot_at rows.slot) (on_equiv rows.slot slot_eq_equiv) c.len-count.result c.max-workers.result (omega arith) parts c.in_ok-parts.ensures.len
+    let members = parts_members (same_slot_at rows.slot) (on_equiv rows.slot slot_eq_equiv) c.len-count.result c.args.workers c.requires.some parts c.in_ok-parts.ensures.len
     (λ k d lt. (c.in_ok-parts.ensures.each k d lt).1.0) in
     rw (c.deref-2.ensures.value, c.in_ok-firsts.ensures, c.deref.ensures.value) (rw c.len-count.ensures at members)
 
@@ -38,7 +38,7 @@ invariant_of-result-clause-known g c =
     let listed = c.deref-2.ensures.value ∙ c.in_ok-firsts.ensures ∙ ap firsts_in c.deref.ensures.value in
     let mine : AreNumbersAmong rows (firsts_in parts) c.in_ok-all.all = subst (λ rs. AreNumbersAmong rows rs c.in_ok-all.all) listed c.in_ok-all.ensures.ok in
     let made = c.in_ok-of_rows.ensures ∙ ap (λ ns. renumbered ns c.deref-3.result.now) c.deref-4.ensures.value ∙ ap (renumbered numbers) c.deref-3.ensures.value in
-    let all = all_numbers rows c.len-count.result c.max-workers.result parts first numbers c.in_ok-of_rows.of_rows.items c.len-count.ensures (omega arith) c.in_ok-parts.ensures.len
+    let all = all_numbers rows c.len-count.result c.args.workers parts first numbers c.in_ok-of_rows.of_rows.items c.len-count.ensures (omega arith) c.in_ok-parts.ensures.len
     (λ k d lt. (c.in_ok-parts.ensures.each k d lt).1.0) mine made in
     All-from_recursion _ c.in_ok-of_rows.of_rows.items
     (numbers_known (same_slot_at rows.slot) (on_equiv rows.slot slot_eq_equiv) (rows_below rows.count) (range_rises 0 rows.count) first c.in_ok-of_rows.of_rows.items all)
@@ -52,7 +52,7 @@ invariant_of-result-clause-few g c =
     let listed = c.deref-2.ensures.value ∙ c.in_ok-firsts.ensures ∙ ap firsts_in c.deref.ensures.value in
     let mine : AreNumbersAmong rows (firsts_in parts) c.in_ok-all.all = subst (λ rs. AreNumbersAmong rows rs c.in_ok-all.all) listed c.in_ok-all.ensures.ok in
     let made = c.in_ok-of_rows.ensures ∙ ap (λ ns. renumbered ns c.deref-3.result.now) c.deref-4.ensures.value ∙ ap (renumbered numbers) c.deref-3.ensures.value in
-    let all = all_numbers rows c.len-count.result c.max-workers.result parts first numbers c.in_ok-of_rows.of_rows.items c.len-count.ensures (omega arith) c.in_ok-parts.ensures.len
+    let all = all_numbers rows c.len-count.result c.args.workers parts first numbers c.in_ok-of_rows.of_rows.items c.len-count.ensures (omega arith) c.in_ok-parts.ensures.len
     (λ k d lt. (c.in_ok-parts.ensures.each k d lt).1.0) mine made in
     let many : length c.in_ok-of_rows.of_rows.items ≡ rows.count = ap length all.numbers_are ∙ length-map (rows_below rows.count) (number_in (same_slot_at rows.slot) first) ∙ length-range_with_len 0 rows.count in
     omega (arith, many, c.requires.few)
@@ -66,6 +66,6 @@ returns-clause-ok g c =
     let listed = c.deref-2.ensures.value ∙ c.in_ok-firsts.ensures ∙ ap firsts_in c.deref.ensures.value in
     let mine : AreNumbersAmong rows (firsts_in parts) c.in_ok-all.all = subst (λ rs. AreNumbersAmong rows rs c.in_ok-all.all) listed c.in_ok-all.ensures.ok in
     let made = c.in_ok-of_rows.ensures ∙ ap (λ ns. renumbered ns c.deref-3.result.now) c.deref-4.ensures.value ∙ ap (renumbered numbers) c.deref-3.ensures.value in
-    let all = all_numbers rows c.len-count.result c.max-workers.result parts first numbers c.in_ok-of_rows.of_rows.items c.len-count.ensures (omega arith) c.in_ok-parts.ensures.len
+    let all = all_numbers rows c.len-count.result c.args.workers parts first numbers c.in_ok-of_rows.of_rows.items c.len-count.ensures (omega arith) c.in_ok-parts.ensures.len
     (λ k d lt. (c.in_ok-parts.ensures.each k d lt).1.0) mine made in
     all
