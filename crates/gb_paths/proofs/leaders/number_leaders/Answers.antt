@@ -1,9 +1,9 @@
-use Rattle.std.proofs.Common.{◌≡◌, ◌∙◌, ap, arith, get_or, length}
+use Rattle.std.proofs.Common.{◌∙◌, ap, arith, length}
 use Rattle.std.proofs.lemmas.List.FromFn.{length-map-range_with_len}
 use Rattle.std.proofs.lemmas.List.Elements.{All-from_recursion}
 use Rattle.gb_defs.proofs.ClassesLemmas.{firsts_ascend}
 use Rattle.gb_paths.specs.Leaders.{same_leader}
-use Rattle.gb_paths.specs.Numbering.{AreNumbersOf, number_in}
+use Rattle.gb_paths.specs.Numbering.{number_in}
 use Rattle.gb_paths.proofs.LeaderLemmas.{first_few, next_numbers, no_numbers, numbers_all}
 use Rattle.gb_paths.proofs.leaders.number_leaders.Goals as goal
 

@@ -1,5 +1,4 @@
-use Rattle.std.proofs.Common.{◌≡◌, ◌∙◌, ap, arith, get_or, length, set, sym, take}
-use Rattle.gb_paths.specs.Leaders.{put_at}
+use Rattle.std.proofs.Common.{◌∙◌, ap, arith, get_or, set}
 use Rattle.gb_paths.proofs.LeaderLemmas.{put_more}
 use Rattle.gb_paths.proofs.leaders.put_leaders.Goals as goal
 

@@ -5,8 +5,8 @@ use Rattle.std.proofs.lemmas.List.Elements.{All-from_recursion, recursion_from_A
 use Rattle.std.proofs.lemmas.List.{length-map}
 use Rattle.smallvec.specs.SmallVec.{SmallVec}
 use Rattle.gb_defs.specs.Classes.{rows_below}
-use Rattle.gb_defs.specs.Rows.{AreHashes, Rows}
-use Rattle.gb_paths.specs.Leaders.{leader_among, led, led_by, led_partitions}
+use Rattle.gb_defs.specs.Rows.{Rows}
+use Rattle.gb_paths.specs.Leaders.{leader_among, led, led_partitions}
 use Rattle.gb_paths.specs.declared.leaders.LedRows.{LedRows}
 use Rattle.gb_paths.specs.Partitions.{list_joined, lists_joined, rows_by_partition}
 use Rattle.gb_paths.proofs.HashLemmas.{all_hashed}

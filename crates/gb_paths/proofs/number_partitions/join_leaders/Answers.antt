@@ -1,10 +1,10 @@
-use Rattle.std.proofs.Common.{◌≡◌, ◌<◌, ◌∙◌, ℕ, All, List, ap, arith, get_or, length, map, subst, sym}
+use Rattle.std.proofs.Common.{◌≡◌, ◌<◌, ◌∙◌, ℕ, All, List, ap, arith, get_or, length, subst, sym}
 use Rattle.std.specs.List.{AllByRecursion}
 use Rattle.std.proofs.lemmas.List.Elements.{All-from_recursion, recursion_from_All}
 use Rattle.gb_groups.proofs.NumberLemmas.{refilled}
 use Rattle.gb_paths.specs.Leaders.{put_parts}
 use Rattle.gb_paths.specs.declared.leaders.LedRows.{LedRows}
-use Rattle.gb_paths.proofs.LeaderLemmas.{IsInside, IsPut, IsRight, parts_length, parts_put}
+use Rattle.gb_paths.proofs.LeaderLemmas.{IsInside, IsRight, parts_length, parts_put}
 use Rattle.gb_paths.proofs.number_partitions.join_leaders.Goals as goal
 
 -- what holds of all rows of all parts, either way

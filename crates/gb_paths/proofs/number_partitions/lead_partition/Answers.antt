@@ -1,4 +1,4 @@
-use Rattle.std.proofs.Common.{arith, ◌≡◌, ◌<◌, ◌==◌, ◌∙◌, ℕ, List, [], Vec, ap, ap₂, filter, get_or, length, map, subst, sym, true}
+use Rattle.std.proofs.Common.{arith, ◌≡◌, ◌<◌, ◌==◌, ◌∙◌, ℕ, List, [], ap, ap₂, filter, get_or, length, map, subst, sym, true}
 use Rattle.std.specs.Cmp.{on_equiv}
 use Rattle.std.proofs.lemmas.List.FromFn.{get_or-map-range_with_len}
 use Rattle.gb_defs.specs.Classes.{rows_below}
@@ -9,7 +9,7 @@ use Rattle.gb_defs.specs.Rows.{same_slot_at}
 use Rattle.gb_defs.proofs.SlotLemmas.{Decides-slot_eq, slot_eq_equiv}
 use Rattle.gb_paths.specs.Leaders.{leader_among}
 use Rattle.gb_paths.specs.Numbering.{AreNumbersOf}
-use Rattle.gb_paths.specs.Partitions.{list_joined, lists_joined}
+use Rattle.gb_paths.specs.Partitions.{list_joined}
 use Rattle.gb_paths.proofs.JoinLemmas.{joined_at}
 use Rattle.gb_paths.proofs.LeaderLemmas.{part_led}
 use Rattle.gb_paths.proofs.MemberLemmas.{few_members}

@@ -1,7 +1,6 @@
-use Rattle.std.proofs.Common.{◌≡◌, ◌<◌, ◌∙◌, ℕ, All, ap, ap₂, arith, get_or, length, subst, sym, take}
+use Rattle.std.proofs.Common.{◌<◌, ◌∙◌, All, ap, ap₂, length, subst, sym, take}
 use Rattle.gb_paths.specs.Leaders.{put_at, put_parts}
-use Rattle.gb_paths.specs.declared.leaders.LedRows.{LedRows}
-use Rattle.gb_paths.proofs.LeaderLemmas.{parts_length, parts_more}
+use Rattle.gb_paths.proofs.LeaderLemmas.{parts_more}
 use Rattle.gb_paths.proofs.number_partitions.put_all.Goals as goal
 
 pub put_leaders-requires-clause-inside : goal.put_leaders-requires-clause-inside

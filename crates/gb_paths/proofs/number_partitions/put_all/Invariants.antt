@@ -1,4 +1,4 @@
-use Rattle.std.proofs.Common.{◌≡◌, ℕ, List, take}
+use Rattle.std.proofs.Common.{◌≡◌, take}
 use Rattle.gb_paths.specs.Leaders.{put_parts}
 use Rattle.gb_paths.proofs.number_partitions.put_all.Given as goal
 
