@@ -12,4 +12,5 @@ pub mod key_rows;
 pub mod list_rows;
 pub mod num_rows;
 pub mod row_mixer;
+pub mod short_rows;
 pub mod slice_rows;

@@ -1,6 +1,6 @@
 //! The rows of a list of keys, and of texts or other bytes in chunks.
 
-ghost use Rattle.std.specs.Prelude.{◌≡◌, ◌++◌, ◌<◌, ◌≤◌, [], length, map, pos, nat_eq, get_or, OnOk};
+ghost use Rattle.std.specs.Prelude.{◌≡◌, ◌++◌, ◌<◌, ◌≤◌, [], length, map, pos, nat_eq, get_or, All, IsTrue, OnOk};
 ghost use Rattle.std.specs.Bool.{Decides};
 ghost use Rattle.std.specs.Int.{Width, w64, w128};
 ghost use Rattle.gb_defs.specs.Slot.{Bytes, Slot};
@@ -11,6 +11,7 @@ ghost use Rattle.gb_values.specs.Keys.{bytes_slot, key_slot};
 ghost use Rattle.gb_numbers.specs.Native.{Decides-pos};
 ghost use Rattle.std.specs.List.Sorted.{IsNonDecreasingBy};
 ghost use Rattle.gb_hash.specs.Chunks.{HasEndBehind, IsChunkAt};
+ghost use Rattle.gb_hash.specs.Short.{IsShort};
 ghost use Rattle.gb_hash.specs.Keys.{bytes_decide, numbers_decide, plain_bytes_decide, slots_alike};
 
 use crate::dirty_hash::{Mixer, hash_of_halves, with_word};
@@ -18,6 +19,7 @@ use crate::key_rows::{KeyRows, Steps};
 use crate::row_mixer::RowMixer;
 use gb_values::bytes::{ByteKind, ByteValues};
 use gb_values::nullable::Values;
+use gb_values::utf8::Text;
 use std::alloc::{AllocError, Global};
 use std::hash::Hash;
 use std::marker::Model;
@@ -195,6 +197,42 @@ impl<'a, K: ByteKind> ByteChunks<'a, K> {
     }
 }
 
+impl<'a> ByteChunks<'a, Text> {
+    /// Whether no text is longer than 16 bytes.
+    pub(crate) fn are_short(&self) -> bool
+        ensures { IsTrue result → All IsShort self.now }
+    {
+        for chunk in &self.chunks {
+            if !is_short_chunk(chunk) {
+                return false;
+            }
+        }
+        true
+    }
+
+    /// The text at a place.
+    #[inline(always)]
+    pub fn text(&self, i: usize) -> &'a str
+        requires { i < length self.now }
+        ensures { result.now ≡ get_or self.now i [] }
+    {
+        let at = chunk_at(&self.ends, &self.pages, i);
+        self.chunks[at].get(i - chunk_start(&self.ends, at))
+    }
+}
+
+// Whether no text of a chunk is longer than 16 bytes.
+fn is_short_chunk(chunk: &ByteValues<Text>) -> bool
+    ensures { IsTrue result → All IsShort chunk.now }
+{
+    for i in 0..chunk.len() {
+        if chunk.get(i).len() > 16 {
+            return false;
+        }
+    }
+    true
+}
+
 // How many values a page has.
 const PAGE: usize = 4096;
 
@@ -207,7 +245,7 @@ fn put_pages(pages: &mut Vec<usize>, chunk: usize, end: usize) -> Result<(), All
 }
 
 // The chunk that a value stands in. The one that its page notes is looked at first.
-#[inline]
+#[inline(always)]
 fn chunk_at(ends: &[usize], pages: &[usize], i: usize) -> usize
     requires rising { IsNonDecreasingBy (λ end. end) ends.now }
     requires inside { HasEndBehind ends.now i }
@@ -224,7 +262,7 @@ fn chunk_at(ends: &[usize], pages: &[usize], i: usize) -> usize
 }
 
 // Behind how many values the chunk at a place starts.
-#[inline]
+#[inline(always)]
 fn chunk_start(ends: &[usize], at: usize) -> usize
     requires { at ≤ length ends.now }
     ensures { result ≡ start_of 0 ends.now at }

@@ -12,6 +12,7 @@ use Rattle.gb_defs.specs.Slot as slot
 use Rattle.gb_values.specs.Keys.{bytes_slot, key_slot}
 use Rattle.gb_cols.specs.Null.{AreNulls}
 use Rattle.gb_hash.specs.Keys.{key_slots}
+use Rattle.gb_paths.specs.Numbers.{text_rows}
 use Rattle.gb_paths.specs.declared.keys.KeyKind.{KeyKind}
 use Rattle.gb_paths.specs.declared.keys.KeyKind.TheVariants as kind
 use Rattle.gb_paths.specs.declared.keys.Keys.{Keys}
@@ -28,7 +29,7 @@ rows_of_keys seed (Words words) = rows_of_slots w64 seed seed_mix (map key_slot 
 rows_of_keys seed (PlainCodes codes) = rows_of_slots w64 seed seed_mix (key_slots (λ n. pos n) codes.items)
 rows_of_keys seed (Codes codes) = rows_of_slots w64 seed seed_mix (map key_slot codes.items)
 rows_of_keys seed (Wide words) = rows_of_slots w128 seed seed_mix (map key_slot words.items)
-rows_of_keys seed (Texts texts) = rows_of_slots w64 seed seed_mix (map (λ t. slot.Bytes t) texts)
+rows_of_keys seed (Texts texts) = text_rows seed texts
 rows_of_keys seed (Bytes bytes) = rows_of_slots w64 seed seed_mix (map bytes_slot bytes.items)
 rows_of_keys seed (RowBytes bytes) = byte_rows seed bytes.slots
 

@@ -17,6 +17,7 @@ ghost use Rattle.gb_paths.specs.Tuples.{key_path_value, tuples_on};
 use crate::into_groups::group_keys;
 use crate::keys::{KeyColumn, Keys, byte_chunks, with_rows};
 use crate::number_rows::number_rows;
+use crate::number_texts::number_texts;
 use crate::path::KeyPath;
 use crate::row_numbers::RowNumbers;
 use gb_base::device::Gate;
@@ -146,6 +147,9 @@ fn number_keys<T: Threads + Sync>(
         IfOk result (AreNumbersAmong rows (rows_below rows.count)) }
     ensures err { IfErr result IsNoMemory }
 {
+    if let Keys::Texts(texts) = keys {
+        return number_texts(rt, alloc, texts, pool);
+    }
     let mixer = SeedMixer::new(pool.seed());
     with_rows!(
         keys, mixer,

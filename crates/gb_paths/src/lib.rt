@@ -13,6 +13,7 @@ pub mod keys;
 mod leaders;
 mod number_partitions;
 mod number_rows;
+mod number_texts;
 pub mod path;
 mod plain_words;
 mod range_rows;

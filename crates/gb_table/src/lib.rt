@@ -4,6 +4,6 @@
 
 pub mod group_table;
 mod slots;
-mod text_key;
+pub mod text_key;
 pub mod text_table;
 mod texts;

@@ -3,7 +3,7 @@
 ghost use Rattle.std.specs.Prelude.{◌≡◌, ◌↔◌, ◌≤◌, IsTrue, length};
 ghost use Rattle.std.specs.Hash.FoldHasher.{folded_multiply};
 ghost use Rattle.std.specs.Int.{w16, w32, w64};
-ghost use Rattle.gb_table.specs.TextKey.{end_words, key_of, key_words, outer_words, text_hash};
+ghost use Rattle.gb_table.specs.TextKey.{end_words, hash_of, key_of, key_words, outer_words, text_hash};
 
 use crate::slots::Hashed;
 use std::hash::{BuildHasher, BuildHasherDefault, FoldHasher};
@@ -11,8 +11,8 @@ use std::hash::{BuildHasher, BuildHasherDefault, FoldHasher};
 /// The length of a text, and a word for each of its ends: its first and its last bytes, which overlap where
 /// it is short, the first ones joined with a seed. For a long text its hash stands in for both. Who does not
 /// know the seed cannot choose texts whose hashes agree.
-#[derive(Clone, Copy, Debug, Drop)]
-pub(crate) struct TextKey {
+#[derive(Clone, Copy, Debug, PartialEq, Eq, Hash, Drop)]
+pub struct TextKey {
     len: usize,
     front: u64,
     back: u64,
@@ -23,20 +23,15 @@ impl Hashed for TextKey {
 
     ghost hash_of = { hash_of };
 
-    #[inline]
+    #[inline(always)]
     fn hash(&self) -> u64 {
-        // What stands in front of a long text's key is a hash.
-        if self.len > 16 {
-            return self.front;
-        }
-        let front = folded_multiply(self.front ^ 0x243f_6a88_85a3_08d3, 0x9e37_79b9_7f4a_7c15);
-        folded_multiply(front ^ self.back, 0x9e37_79b9_7f4a_7c15)
+        self.hash_key()
     }
 }
 
 impl TextKey {
-    #[inline]
-    pub(crate) fn new(text: &str, seed: u64) -> TextKey
+    #[inline(always)]
+    pub fn new(text: &str, seed: u64) -> TextKey
         ensures { result ≡ key_of seed text.now }
     {
         let (front, back) = key_words(text, seed);
@@ -47,15 +42,28 @@ impl TextKey {
         }
     }
 
+    /// The hash of the key.
+    #[inline(always)]
+    pub fn hash_key(&self) -> u64
+        ensures { result ≡ hash_of self.now }
+    {
+        // What stands in front of a long text's key is a hash.
+        if self.len > 16 {
+            return self.front;
+        }
+        let front = folded_multiply(self.front ^ 0x243f_6a88_85a3_08d3, 0x9e37_79b9_7f4a_7c15);
+        folded_multiply(front ^ self.back, 0x9e37_79b9_7f4a_7c15)
+    }
+
     /// Whether no other text has this key.
-    #[inline]
+    #[inline(always)]
     pub(crate) fn is_whole(&self) -> bool
         ensures { IsTrue result ↔ (self.now.len ≤ 16) }
     {
         self.len <= 16
     }
 
-    #[inline]
+    #[inline(always)]
     pub(crate) fn is(&self, other: TextKey) -> bool
         ensures { IsTrue result ↔ (self.now ≡ other) }
     {
@@ -64,7 +72,7 @@ impl TextKey {
 }
 
 // The words of a text under a seed.
-#[inline]
+#[inline(always)]
 fn key_words(text: &str, seed: u64) -> (u64, u64)
     ensures { result ≡ key_words seed text.now }
 {
@@ -76,7 +84,7 @@ fn key_words(text: &str, seed: u64) -> (u64, u64)
 }
 
 // A word for each end of a short text.
-#[inline]
+#[inline(always)]
 fn end_words(bytes: &[u8]) -> (u64, u64)
     ensures { result ≡ end_words bytes.now }
 {
@@ -95,7 +103,7 @@ fn end_words(bytes: &[u8]) -> (u64, u64)
     (u64::from(bytes[0]), 0)
 }
 
-#[inline]
+#[inline(always)]
 fn words_of_eight(bytes: &[u8]) -> (u64, u64)
     requires { 8 ≤ length bytes.now }
     ensures { result ≡ outer_words w64 8 bytes.now }
@@ -106,7 +114,7 @@ fn words_of_eight(bytes: &[u8]) -> (u64, u64)
     }
 }
 
-#[inline]
+#[inline(always)]
 fn words_of_four(bytes: &[u8]) -> (u64, u64)
     requires { 4 ≤ length bytes.now }
     ensures { result ≡ outer_words w32 4 bytes.now }
@@ -120,7 +128,7 @@ fn words_of_four(bytes: &[u8]) -> (u64, u64)
     }
 }
 
-#[inline]
+#[inline(always)]
 fn words_of_two(bytes: &[u8]) -> (u64, u64)
     requires { 2 ≤ length bytes.now }
     ensures { result ≡ outer_words w16 2 bytes.now }
@@ -143,7 +151,7 @@ fn text_hash(text: &str, seed: u64) -> u64
 }
 
 // Both halves of the product.
-#[inline]
+#[inline(always)]
 fn folded_multiply(a: u64, b: u64) -> u64
     ensures { result ≡ folded_multiply a b }
 {

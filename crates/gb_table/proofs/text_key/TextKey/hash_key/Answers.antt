@@ -2,7 +2,7 @@ use Rattle.std.proofs.Common.{◌≡◌, ◌∙◌, ap, arith, bit_xor, false, n
 use Rattle.std.specs.Hash.FoldHasher.{folded_multiply}
 use Rattle.std.proofs.lemmas.Bool.Decides.{nat_tests}
 use Rattle.gb_table.specs.TextKey.{hash_of}
-use Rattle.gb_table.proofs.text_key.TextKeyHashed.hash.Goals as goal
+use Rattle.gb_table.proofs.text_key.TextKey.hash_key.Goals as goal
 
 pub returns-then-self-gt16 : goal.returns-then-self-gt16
 unfolding hash_of
