@@ -2,6 +2,7 @@
 
 ghost use Rattle.std.specs.Prelude.{◌≡◌, ◌≢◌, ◌<◌, ◌≤◌, ◌+◌, length, Err, IfErr, IfOk};
 ghost use Rattle.std.specs.String.{string_bytes};
+ghost use Rattle.gb_flat.specs.Buffers.{joined};
 ghost use Rattle.gb_defs.specs.Notes.{IsTraceLine, bounded_threshold, bounded_workers};
 ghost use Rattle.gb_defs.specs.Outcome.{outcome};
 ghost use Rattle.gb_base.specs.Pool.{threshold_of, workers_of};
@@ -49,7 +50,8 @@ const BLOCK_BYTES: usize = 8_388_608;
 /// The text of an answer, and the line of its trace: empty where none is asked for.
 #[derive(Drop)]
 pub struct Answer {
-    pub text: Vec<u8>,
+    /// In parts that follow each other.
+    pub text: Vec<Vec<u8>>,
     pub line: String,
 }
 
@@ -67,7 +69,7 @@ pub fn report<R: Threads + Sync, S: Source, G: Gate + Sync>(
     requires some { HasKeys (request_of request.now) }
     ensures ok { IfOk result (λ answer.
         HasReadAll limits.input_bytes (S.left source.old) (S.left source.new) (λ bytes.
-        IsAnswerTo (request_of request.now) bytes answer.text.items (string_bytes answer.line))) }
+        IsAnswerTo (request_of request.now) bytes (joined answer.text.items) (string_bytes answer.line))) }
     ensures err { IfErr result (IsRefusedText (outcome (request_of request.now))
         (S.faults source.old) (S.faults source.new) limits.input_bytes
         (S.left source.old) (S.left source.new)) }
@@ -136,7 +138,7 @@ fn group_report<R: Threads + Sync, S: Source, G: Gate + Sync>(
     requires some { 0 < length by.now }
     ensures ok { let request = group_by by.now aggs.now options.now in IfOk result (λ answer.
         HasReadAll limits.input_bytes (S.left source.old) (S.left source.new) (λ bytes.
-        IsAnswerTo request bytes answer.text.items (string_bytes answer.line))) }
+        IsAnswerTo request bytes (joined answer.text.items) (string_bytes answer.line))) }
     ensures err { IfErr result (IsRefusedText (outcome (group_by by.now aggs.now options.now))
         (S.faults source.old) (S.faults source.new) limits.input_bytes
         (S.left source.old) (S.left source.new)) }

@@ -7,6 +7,7 @@ ghost use Rattle.gb_defs.specs.Table as table;
 ghost use Rattle.gb_base.specs.Device.{Rose};
 ghost use Rattle.gb_base.specs.declared.error.PolarsError.{PolarsError};
 ghost use Rattle.std.specs.String.{string_bytes};
+ghost use Rattle.gb_flat.specs.Buffers.{joined};
 ghost use Rattle.gb_run.specs.Run.{AreNotes, Comes, HasCause, HasNoAnswer, IsAnswer, IsOneOf};
 ghost use Rattle.gb_text.specs.Moved.{HasTaken, Holds, HoldsPart};
 ghost use Rattle.gb_run.specs.Run.{IsTable, IsTooLong, OfOutcome, Run, WhereTold, Writes};
@@ -37,7 +38,8 @@ fn prepare<R: Threads + Sync, S: Source, G: Gate + Sync>(
 ) -> Result<Answer, Status>
     requires limit { limits.input_bytes ≤ 4294967295 }
     ensures ok { let task = task_of words.now (S.left source.old) limits.input_bytes in
-        IfOk result (λ answer. IsAnswer task answer.text.items (string_bytes answer.line)) }
+        IfOk result (λ answer. IsAnswer task (joined answer.text.items)
+        (string_bytes answer.line)) }
     ensures err { let task = task_of words.now (S.left source.old) limits.input_bytes in
         IfErr result (HasNoAnswer task (S.faults source.old) (S.faults source.new)) }
     ensures read { OnOk result (IsReadToEnd (S.left source.old) (S.left source.new)) }

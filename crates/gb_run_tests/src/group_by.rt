@@ -43,8 +43,8 @@ pub(crate) fn writes<R: Threads + Sync>(
     text: &str,
 ) -> PolarsResult<bool> {
     let frame = made?;
-    let written = text_of(rt, alloc, &frame, "-", 1)?;
-    Ok(written.as_slice() == text.as_bytes())
+    let parts = text_of(rt, alloc, &frame, "-", 1)?;
+    Ok(parts.len() == 1 && parts[0].as_slice() == text.as_bytes())
 }
 
 #[test]

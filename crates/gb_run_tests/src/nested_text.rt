@@ -74,7 +74,7 @@ fn is_written<R: Threads + Sync>(
 ) -> bool {
     match frame {
         Ok(frame) => match text_of(rt, alloc, &frame, "-", 1) {
-            Ok(text) => text.as_slice() == wanted.as_bytes(),
+            Ok(parts) => parts.len() == 1 && parts[0].as_slice() == wanted.as_bytes(),
             Err(_) => false,
         },
         Err(_) => false,

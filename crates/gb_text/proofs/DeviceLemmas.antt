@@ -1,13 +1,15 @@
 -- What pieces leave in a source, and what a sink holds after them.
-use Rattle.std.proofs.Common.{◌≡◌, ℕ, ◌+◌, ◌≤◌, List, [], ◌++◌, length, take, drop, Option, Some, None, Result, Err, ◌≢◌, option_map, refl, sym, ap, ◌∙◌, ◌<◌, inl, inr, arith, append_assoc, length-append, append-nil}
+use Rattle.std.proofs.Common.{◌≡◌, ℕ, ◌+◌, ◌≤◌, List, [], ◌∷◌, ◌++◌, Vec, get_or, length, take, drop, Option, Some, None, Result, Err, ◌≢◌, option_map, refl, sym, subst, ap, ◌∙◌, ◌<◌, inl, inr, arith, append_assoc, length-append, append-nil}
 use Rattle.std.proofs.Math.Nat.{eq-or-lt_of_le}
 use Rattle.std.proofs.Math.Seq.{take-add, take-append-add}
-use Rattle.std.proofs.lemmas.List.{take-append-le, take-take, take_all, take_at}
+use Rattle.std.proofs.lemmas.List.{take-append-drop, take-append-le, take_more, take-take, take_all, take_at}
 use Rattle.std.specs.Option.{IfSome}
 use Rattle.gb_base.specs.Device.{Rose}
 use Rattle.gb_text.specs.declared.status.Status.{Status}
 use Rattle.gb_text.specs.declared.status.Status.TheVariants.{Done, Usage, Table, Group, ReadFault, WriteFault, TooLong, NoMemory}
-use Rattle.gb_text.specs.Moved.{HasMoved, HasTaken, IsInputFault, IsPieceFault}
+use Rattle.std.proofs.lemmas.Grind.{flat_map-append}
+use Rattle.gb_flat.specs.Buffers.{joined}
+use Rattle.gb_text.specs.Moved.{HasMoved, HasTaken, Holds, HoldsPart, IsInputFault, IsPieceFault}
 
 -- one more piece was written
 pub held_more : (text piece : List ℕ) (done count : ℕ) (before held after : Option (List ℕ)) → held ≡ option_map (λ h. h ++ take done text) before → piece ≡ drop done text →
@@ -99,3 +101,35 @@ read_behind old zeros whole room post behind held count size long is low inside 
     ∙ ap (λ n. take (n + count) (old ++ ((room ++ post) ++ behind))) long
     ∙ take-append-add old ((room ++ post) ++ behind) count
     ∙ ap (λ piece. old ++ piece) (take-append-le count (room ++ post) behind (omega (arith, low, length-append room post)) ∙ take-append-le count room post low)
+
+-- ---- a text in parts
+
+-- a part of one part, behind the parts before it, is a part of the text
+part_behind : (xs ys zs : List ℕ) (before mid after : Option (List ℕ)) → Holds xs before mid → HoldsPart ys mid after → HoldsPart (xs ++ (ys ++ zs)) before after
+part_behind xs ys zs before mid after held part = record {
+  count = length xs + part.count;
+  less = omega (arith, part.less, length-append xs (ys ++ zs), length-append ys zs);
+  part = part.part ∙ ap (option_map (λ h. h ++ take part.count ys)) held ∙ both before;
+}
+  where
+    front : (b : List ℕ) → (b ++ xs) ++ take part.count ys ≡ b ++ take (length xs + part.count) (xs ++ (ys ++ zs))
+    front b =
+        append_assoc b xs (take part.count ys)
+        ∙ ap (λ t. b ++ t) (ap (λ t. xs ++ t) (sym (take-append-le part.count ys zs (omega (arith, part.less)))) ∙ sym (take-append-add xs (ys ++ zs) part.count))
+
+    both : (o : Option (List ℕ)) → option_map (λ h. h ++ take part.count ys) (option_map (λ h. h ++ xs) o) ≡ option_map (λ h. h ++ take (length xs + part.count) (xs ++ (ys ++ zs))) o
+    both None = refl
+    both (Some b) = ap (λ t. Some t) (front b)
+
+pub part_of_parts : {A : Type 0} (parts : List (Vec ℕ A)) (k : ℕ) (d : Vec ℕ A) → k < length parts → (before mid after : Option (List ℕ)) →
+    Holds (joined (take k parts)) before mid → HoldsPart (get_or parts k d).items mid after → HoldsPart (joined parts) before after
+part_of_parts parts k d lt before mid after held part =
+    let item = get_or parts k d in
+    let front = joined (take k parts) in
+    let rest = joined (drop (k + 1) parts) in
+    let all : joined parts ≡ front ++ (item.items ++ rest) =
+    ap joined (sym (take-append-drop (k + 1) parts) ∙ ap (λ ps. ps ++ drop (k + 1) parts) (take_more parts k d lt))
+    ∙ flat_map-append (λ (buf : Vec ℕ _). buf.items) (take k parts ++ item ∷ []) (drop (k + 1) parts)
+    ∙ ap (λ xs. xs ++ rest) (flat_map-append (λ (buf : Vec ℕ _). buf.items) (take k parts) (item ∷ []) ∙ ap (λ xs. front ++ xs) (append-nil item.items))
+    ∙ append_assoc front item.items rest in
+    subst (λ t. HoldsPart t before after) (sym all) (part_behind front item.items rest before mid after held part)

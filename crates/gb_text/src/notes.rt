@@ -3,12 +3,13 @@
 ghost use Rattle.std.specs.Prelude.{◌≡◌, ◌⊎◌, ◌≤◌, ◌++◌, false, true, None, IfOk, IfSome};
 ghost use Rattle.std.specs.String.{string_bytes};
 ghost use Rattle.gb_base.specs.Device.{Rose};
+ghost use Rattle.gb_flat.specs.Buffers.{joined};
 ghost use Rattle.gb_text.specs.Moved.{HasWritten, Holds, HoldsPart};
 ghost use Rattle.gb_text.specs.declared.status.Status.TheVariants.{Done, WriteFault};
 ghost use Rattle.gb_text.specs.StatusLine.{IsToldAs, names_fault, status_line};
 
 use crate::status::Status;
-use crate::streams::write_all;
+use crate::streams::{write_all, write_parts};
 use gb_base::device::{Failed, Sink};
 use std::alloc::{AllocError, Global};
 
@@ -51,18 +52,23 @@ pub fn tell<E: Sink>(alloc: Global, notes: &mut E, status: Status) -> Status
 
 /// Writes a line to the notes and the text of an answer to the sink, and says how the run ends. Where the
 /// sink fails, that is told behind the line.
-pub fn deliver<W: Sink, E: Sink>(sink: &mut W, notes: &mut E, text: &[u8], line: &[u8]) -> Status
+pub fn deliver<W: Sink, E: Sink>(
+    sink: &mut W,
+    notes: &mut E,
+    text: &[Vec<u8>],
+    line: &[u8],
+) -> Status
     ensures ends { result ≡ Done ⊎ result ≡ WriteFault }
-    ensures done { result ≡ Done → Holds text.now (W.held sink.old) (W.held sink.new) }
+    ensures done { result ≡ Done → Holds (joined text.now) (W.held sink.old) (W.held sink.new) }
     ensures failed { result ≡ WriteFault → Rose (W.faults sink.old) (W.faults sink.new) }
     ensures part { result ≡ WriteFault
-        → HoldsPart text.now (W.held sink.old) (W.held sink.new) }
+        → HoldsPart (joined text.now) (W.held sink.old) (W.held sink.new) }
     ensures kept { W.faults sink.old ≤ W.faults sink.new }
     ensures noted { HasWritten (line.now ++ status_line result) (E.held notes.old)
         (E.held notes.new) (E.faults notes.old) (E.faults notes.new) }
 {
     let told = note(notes, line);
-    match write_all(sink, text) {
+    match write_parts(sink, text) {
         Ok(()) => Status::Done,
         Err(Failed) => {
             note_behind(notes, told, WRITE_FAULT.as_bytes());

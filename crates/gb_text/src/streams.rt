@@ -4,6 +4,7 @@ ghost use Rattle.std.specs.Prelude.{◌≡◌, ◌≢◌, ◌≤◌, ◌+◌, �
 ghost use Rattle.std.specs.Bool.{OnFalse, OnTrue};
 ghost use Rattle.std.specs.Str.{IsAscii};
 ghost use Rattle.gb_base.specs.Device.{Rose};
+ghost use Rattle.gb_flat.specs.Buffers.{joined};
 ghost use Rattle.gb_text.specs.Moved.{HasMoved, HasTaken, Holds, HoldsPart, IsPieceFault};
 ghost use Rattle.gb_text.specs.Stream.{IsFilled};
 ghost use Rattle.gb_text.specs.declared.status.Status.TheVariants as status;
@@ -124,6 +125,20 @@ pub fn write_all<W: Sink>(sink: &mut W, text: &[u8]) -> Result<(), Failed>
     while done < text.len() {
         let rest = &text[done..];
         done += sink.write(rest)?;
+    }
+    Ok(())
+}
+
+/// Writes a text that is in parts.
+pub fn write_parts<W: Sink>(sink: &mut W, parts: &[Vec<u8>]) -> Result<(), Failed>
+    ensures ok { OnOk result (Holds (joined parts.now) (W.held sink.old) (W.held sink.new)) }
+    ensures err { OnErr result (Rose (W.faults sink.old) (W.faults sink.new)) }
+    ensures part { OnErr result
+        (HoldsPart (joined parts.now) (W.held sink.old) (W.held sink.new)) }
+    ensures kept { W.faults sink.old ≤ W.faults sink.new }
+{
+    for part in parts {
+        write_all(sink, part)?;
     }
     Ok(())
 }

@@ -5,6 +5,7 @@ ghost use Rattle.gb_defs.specs.Column.{content};
 ghost use Rattle.gb_defs.specs.Text.{frame_text, header_field, header_line, row_line};
 ghost use Rattle.gb_cols.specs.Column.{cell_of};
 ghost use Rattle.gb_base.specs.PlSmallStr.{IsNoMemory};
+ghost use Rattle.gb_flat.specs.Buffers.{joined};
 ghost use Rattle.gb_series.specs.Series.{value_of};
 ghost use Rattle.gb_text.specs.Text.{EndsRow, HasBegun, TakesField, TakesRows, contents_of, rows_text};
 
@@ -13,7 +14,7 @@ use crate::type_word::put_word;
 use csv::{Writer, WriterBuilder};
 use gb_base::error::{PolarsError, PolarsResult};
 use gb_cols::series_trait::SeriesTrait;
-use gb_flat::shares::{join_shares, map_shares};
+use gb_flat::shares::map_shares;
 use gb_series::frame::DataFrame;
 use gb_series::series::Series;
 use std::alloc::{AllocError, Global};
@@ -190,7 +191,7 @@ fn text_of_rows(
     Ok(text)
 }
 
-// The whole text, in which each worker writes some rows that follow each other.
+// The whole text, in which each worker writes some rows that follow each other, a part each.
 fn text_by_workers<T: Threads + Sync>(
     rt: &T,
     alloc: Global,
@@ -198,11 +199,11 @@ fn text_by_workers<T: Threads + Sync>(
     height: usize,
     null_word: &str,
     workers: usize,
-) -> PolarsResult<Vec<u8>>
+) -> PolarsResult<Vec<Vec<u8>>>
     requires some { 1 ≤ workers }
     requires high { All (λ column. length (value_of column).slots ≡ height) columns.now }
-    ensures ok { let contents = contents_of columns.now in IfOk result (λ t.
-        t.items ≡ header_line contents ++ rows_text null_word.now contents (0, height)) }
+    ensures ok { let contents = contents_of columns.now in IfOk result (λ parts. joined parts.items
+        ≡ header_line contents ++ rows_text null_word.now contents (0, height)) }
     ensures err { IfErr result IsNoMemory }
 {
     let part = |range: (usize, usize)|
@@ -216,20 +217,20 @@ fn text_by_workers<T: Threads + Sync>(
     let mut parts = Vec::with_capacity(alloc, workers + 1)?;
     parts.push(text_from_header(alloc, columns, (0, 0), null_word)?)?;
     parts.append(&mut rows)?;
-    let text = join_shares(alloc, parts)?;
-    Ok(text)
+    Ok(parts)
 }
 
-/// The text of the frame, with this word for null, by so many workers if it has many rows. With one worker no
-/// thread is started.
+/// The text of the frame, with this word for null, in parts that follow each other: by so many workers, a part
+/// each, if it has many rows, else in one. With one worker no thread is started.
 pub fn text_of<T: Threads + Sync>(
     rt: &T,
     alloc: Global,
     frame: &DataFrame,
     null_word: &str,
     workers: usize,
-) -> PolarsResult<Vec<u8>>
-    ensures ok { IfOk result (λ t. t.items ≡ frame_text (map content frame.now) null_word.now) }
+) -> PolarsResult<Vec<Vec<u8>>>
+    ensures ok { IfOk result (λ parts.
+        joined parts.items ≡ frame_text (map content frame.now) null_word.now) }
     ensures err { IfErr result IsNoMemory }
 {
     let columns = frame.get_columns();
@@ -239,9 +240,10 @@ pub fn text_of<T: Threads + Sync>(
     let height = frame.height();
     let workers = workers.min(height / SHARE_ROWS);
     if workers < 2 {
-        let text = text_from_header(alloc, columns, (0, height), null_word)?;
-        return Ok(text);
+        let mut parts = Vec::new(alloc);
+        parts.push(text_from_header(alloc, columns, (0, height), null_word)?)?;
+        return Ok(parts);
     }
-    let text = text_by_workers(rt, alloc, columns, height, null_word, workers)?;
-    Ok(text)
+    let parts = text_by_workers(rt, alloc, columns, height, null_word, workers)?;
+    Ok(parts)
 }

@@ -14,4 +14,4 @@ returns-clause-ok g c =
     let header = c.in_ok-text_from_header.ensures.ok ∙ append-nil (header_line contents) in
     let body = texts_joined (λ (t : Vec ℕ Global). t.items) (row_line c.args.null_word.now contents) c.args.height c.args.workers rows (omega (arith, c.requires.some)) c.in_ok-rows.ensures.len
     (λ k d lt. (c.in_ok-rows.ensures.each k d lt).1.0) in
-    c.in_ok-text.ensures ∙ ap joined parts ∙ ap₂ (λ (a b : List ℕ). a ++ b) header body
+    ap joined parts ∙ ap₂ (λ (a b : List ℕ). a ++ b) header body

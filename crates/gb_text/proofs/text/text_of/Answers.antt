@@ -1,11 +1,12 @@
-use Rattle.std.proofs.Common.{◌∙◌, arith, eqb-true, length, sym}
+use Rattle.std.proofs.Common.{◌∙◌, ◌++◌, ◌∷◌, [], List, ℕ, Vec, Global, ap, append-nil, arith, eqb-true, length, sym}
+use Rattle.gb_flat.specs.Buffers.{joined}
 use Rattle.gb_text.proofs.TextLemmas.{columns_aligned, no_columns, some_columns, text_is}
 use Rattle.gb_text.proofs.text.text_of.Goals as goal
 
 pub returns-then-is_empty-clause-ok : goal.returns-then-is_empty-clause-ok
 returns-then-is_empty-clause-ok g c =
     let columns = c.get_columns-columns.result.now in
-    c.new.ensures.items ∙ sym (no_columns columns c.args.frame.now c.args.null_word.now c.get_columns-columns.ensures (eqb-true (length columns) 0 (sym c.if-is_empty.ensures)))
+    ap joined c.new.ensures.items ∙ sym (no_columns columns c.args.frame.now c.args.null_word.now c.get_columns-columns.ensures (eqb-true (length columns) 0 (sym c.if-is_empty.ensures)))
 
 pub text_from_header-requires-clause-rows : goal.text_from_header-requires-clause-rows
 text_from_header-requires-clause-rows g c =
@@ -17,7 +18,8 @@ pub returns-then-workers-lt2-clause-ok : goal.returns-then-workers-lt2-clause-ok
 returns-then-workers-lt2-clause-ok g c =
     let columns = c.get_columns-columns.result.now in
     let text = text_is columns c.args.frame.now c.args.null_word.now c.get_columns-columns.ensures (some_columns (length columns) c.if-is_empty.ensures) in
-    c.in_ok-text.ensures.ok ∙ sym (rw (← c.height-height.ensures.value) at text)
+    ap joined (c.in_ok-push.ensures.items ∙ ap (λ (ps : List (Vec ℕ Global)). ps ++ c.in_ok-text_from_header.field-0 ∷ []) c.new-parts.ensures.items)
+    ∙ append-nil c.in_ok-text_from_header.field-0.items ∙ c.in_ok-text_from_header.ensures.ok ∙ sym (rw (← c.height-height.ensures.value) at text)
 
 pub text_by_workers-requires-clause-high : goal.text_by_workers-requires-clause-high
 text_by_workers-requires-clause-high g c κs within =
@@ -27,4 +29,4 @@ pub returns-clause-ok : goal.returns-clause-ok
 returns-clause-ok g c =
     let columns = c.get_columns-columns.result.now in
     let text = text_is columns c.args.frame.now c.args.null_word.now c.get_columns-columns.ensures (some_columns (length columns) c.if-is_empty.ensures) in
-    c.in_ok-text-2.ensures.ok ∙ sym (rw (← c.height-height.ensures.value) at text)
+    c.in_ok-parts.ensures.ok ∙ sym (rw (← c.height-height.ensures.value) at text)
