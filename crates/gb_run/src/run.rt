@@ -95,7 +95,7 @@ fn answer<R: Threads + Sync, S: Source, W: Sink, E: Sink, G: Gate + Sync>(
 
 /// Reads the table, answers the request of the words over it, and writes the answer's text. How the rows
 /// were grouped goes to the notes, where that is asked, and why there is no answer, where there is none.
-/// Each piece of work that a thread does enters the gate, and leaves it: only a test's gate waits there.
+/// Each partition that a thread groups enters the gate, and leaves it: only a test's gate waits there.
 pub fn run<R: Threads + Sync, S: Source, W: Sink, E: Sink, G: Gate + Sync>(
     rt: &R,
     alloc: Global,
