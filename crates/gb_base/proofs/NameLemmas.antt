@@ -47,3 +47,25 @@ module _ {all rest set : List (List ℕ)} (name : List ℕ) (s : HasSeen all (na
     same = s.same ∙ ap (λ b. cond b (Some name) (repeated_after (name ∷ s.names) rest)) (sym (s.has name) ∙ e);
     has = λ other. more other ∙ ap (λ b. b || list_any (bytes_eq other) set) (bytes_eq_symm name other) ∙ ap (λ b. bytes_eq other name || b) (s.has other);
   }
+
+-- the set and the rest are the names of a list
+abbrev pub HasAllBut : List (List ℕ) → List (List ℕ) → List (List ℕ) → Type 0
+HasAllBut all rest set = (other : List ℕ) → list_any (bytes_eq other) all ≡ (list_any (bytes_eq other) set || list_any (bytes_eq other) rest)
+
+or_moved : (a b c : Bool) → (a || (b || c)) ≡ ((b || a) || c)
+or_moved true true c = refl
+or_moved true false c = refl
+or_moved false true c = refl
+or_moved false false c = refl
+
+or_false : (a : Bool) → (a || false) ≡ a
+or_false true = refl
+or_false false = refl
+
+pub all_but_more : (all rest set new : List (List ℕ)) (name : List ℕ) → HasAllBut all (name ∷ rest) set → HasOneMore name set new → HasAllBut all rest new
+all_but_more all rest set new name has more = λ other.
+    has other ∙ ap (λ b. list_any (bytes_eq other) set || (b || list_any (bytes_eq other) rest)) (bytes_eq_symm other name)
+    ∙ or_moved (list_any (bytes_eq other) set) (bytes_eq name other) (list_any (bytes_eq other) rest) ∙ ap (λ b. b || list_any (bytes_eq other) rest) (sym (more other))
+
+pub all_in : (all set : List (List ℕ)) → HasAllBut all [] set → (other : List ℕ) → list_any (bytes_eq other) set ≡ list_any (bytes_eq other) all
+all_in all set has other = sym (has other ∙ or_false (list_any (bytes_eq other) set))

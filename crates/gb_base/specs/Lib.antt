@@ -5,6 +5,7 @@ pub mod Device
 pub mod ErrorText
 pub mod FitsPool
 pub mod Memory
+pub mod NameSet
 pub mod NullableIdx
 pub mod PlSmallStr
 pub mod PolarsError

@@ -5,6 +5,7 @@ ghost use Rattle.std.specs.List.{list_any};
 ghost use Rattle.std.specs.Str.{bytes_eq};
 ghost use Rattle.gb_defs.specs.Column.{first_repeated};
 ghost use Rattle.gb_base.specs.PlSmallStr.{IsNoMemory, name_of};
+ghost use Rattle.gb_base.specs.NameSet.{AreAmong};
 
 use crate::error::PolarsResult;
 use crate::small_str::PlSmallStr;
@@ -34,6 +35,24 @@ impl<'a> NameSet<'a> {
         NameSet {
             names: BTreeSet::new(alloc),
         }
+    }
+
+    /// The names of a slice.
+    pub fn of(alloc: Global, names: &[&'a str]) -> Result<NameSet<'a>, AllocError>
+        ensures { IfOk result (AreAmong (map (λ name. name.now) names.now)) }
+    {
+        let mut set = NameSet::new(alloc);
+        for name in names {
+            set.insert(*name)?;
+        }
+        Ok(set)
+    }
+
+    /// Whether a name is among these. A call takes as many comparisons as `insert`.
+    pub fn contains(&self, name: &str) -> bool
+        ensures { result ≡ list_any (bytes_eq name.now) self.now }
+    {
+        self.names.contains(name)
     }
 
     /// One name more, and whether it is new. A call takes as many comparisons as the logarithm of the number

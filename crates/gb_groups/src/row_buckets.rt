@@ -76,12 +76,9 @@ fn empty_buckets(alloc: Global, counts: &[IdxSize]) -> Result<Vec<RowBucket>, Al
 
 // How many rows the groups of a bucket have.
 fn count_rows(counts: &[IdxSize], bucket: usize) -> usize {
+    let first = bucket.saturating_mul(NEAR_GROUPS).min(counts.len());
     let mut rows: usize = 0;
-    for count in counts
-        .iter()
-        .skip(bucket.saturating_mul(NEAR_GROUPS))
-        .take(NEAR_GROUPS)
-    {
+    for count in counts[first..].iter().take(NEAR_GROUPS) {
         rows = rows.saturating_add(*count as usize);
     }
     rows
