@@ -127,9 +127,10 @@ impl<'a> GroupBy<'a> {
     ) -> PolarsResult<DataFrame>
         ensures { Answers self.now (aggs_of aggs.now) result }
     {
-        check_columns(self.frame, aggs)?;
+        let named = self.frame.by_name()?;
+        check_columns(&named, aggs)?;
         let over = Over::Groups(self.groups.view());
-        let mut folded = aggregates(rt, alloc, self.frame, aggs, &over, pool)?;
+        let mut folded = aggregates(rt, alloc, &named, aggs, &over, pool)?;
         let mut columns = self.keys(alloc)?;
         columns.append(&mut folded)?;
         DataFrame::new(columns)

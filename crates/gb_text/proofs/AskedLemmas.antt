@@ -5,9 +5,7 @@ use Rattle.std.specs.Str.{bytes_eq}
 use Rattle.std.specs.Cmp.Lexicographic.{bytes_decides}
 use Rattle.std.proofs.lemmas.Bool.{cases_Bool, eqb-true, eq-eqb}
 use Rattle.gb_defs.specs.Column.{ColumnValue, Frame, IsFrame, all_have_length, find_column, frame_height, names_of, repeated_after}
-use Rattle.std.proofs.Common.{Bor, ◌<◌, ◌+◌, drop, get_or}
-use Rattle.std.proofs.lemmas.List.{drop_more}
-use Rattle.gb_text.specs.Asked.{is_asked, kept, names_in}
+use Rattle.gb_text.specs.Asked.{is_asked, kept}
 
 -- ---- columns by their names
 
@@ -92,15 +90,3 @@ module _ (names : List (List ℕ)) where
     distinct = distinct_kept [] [] frame (record { found = λ name h. h }) f.distinct;
     aligned = aligned_at (frame_height frame) (kept names frame) (aligned_kept (frame_height frame) frame f.aligned);
   }
-
--- ---- a name sought among others, one after the other
-
-module _ (names : List (Bor (List ℕ))) (name : List ℕ) (i : ℕ) (d : Bor (List ℕ)) (lt : i < length names) where
-  asked_split : is_asked (names_in (drop i names)) name ≡ is_asked ((get_or names i d).now ∷ names_in (drop (i + 1) names)) name
-  asked_split = ap (λ rest. is_asked (names_in rest) name) (drop_more names i d lt)
-
-  pub asked_at : bytes_eq name (get_or names i d).now ≡ true → is_asked (names_in (drop i names)) name ≡ true
-  asked_at same = asked_split ∙ (rw same refl)
-
-  pub asked_later : bytes_eq name (get_or names i d).now ≡ false → is_asked (names_in (drop i names)) name ≡ is_asked (names_in (drop (i + 1) names)) name
-  asked_later differs = asked_split ∙ (rw differs refl)

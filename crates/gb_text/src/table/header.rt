@@ -43,18 +43,6 @@ fn read_field(field: &[u8]) -> Option<(&str, DataType)>
     Some(read_head(text))
 }
 
-// Whether a name is among those that are asked for.
-fn is_asked(names: &[&str], name: &str) -> bool
-    ensures { result ≡ is_asked (names_in names.now) name.now }
-{
-    for asked in names {
-        if name == *asked {
-            return true;
-        }
-    }
-    false
-}
-
 // A column with no slots, which keeps them or not.
 fn empty_column(
     alloc: Global,
@@ -83,6 +71,7 @@ pub fn columns_of_header(
         IfErr result (λ e. IsRefusedTable e (builders_of asked (fields_of header.now))) }
 {
     let mut columns = Vec::with_capacity(alloc, header.len())?;
+    let asked = NameSet::of(alloc, names)?;
     let mut seen = NameSet::new(alloc);
     for field in header {
         let place = columns.len() as u64 + 1;
@@ -92,7 +81,7 @@ pub fn columns_of_header(
         if !seen.insert(name)? {
             return Err(TableError::Fault(TableFault::SameName(place)));
         }
-        let keeps = is_asked(names, name);
+        let keeps = asked.contains(name);
         columns.push(empty_column(alloc, name, dtype, keeps)?)?;
     }
     Ok(columns)

@@ -50,12 +50,13 @@ loop-field-preserved c =
     let fresh = unheld (list_any (bytes_eq c.in-Some-read_field.name.now) c.loop-field.seen) _ c.in_ok-insert.ensures.new c.if-not-branch.false in
     let more = header_more (is_asked (names_in c.args.names.now)) (fields_of c.args.header.now) c.loop-field.field-iterator.at c.loop-field.columns.items c.loop-field.seen inv.made c.in-Some.field.now read
     head is c.insert.new.self fresh c.in_ok-insert.ensures.names in
+    let asked : c.contains-keeps.result ≡ is_asked (names_in c.args.names.now) head.name = c.contains-keeps.ensures ∙ c.in_ok-asked.ensures head.name in
     let items = c.in_ok-push.ensures.items in (
       tt,
       tt,
       record {
         same = ap (λ r. r.now) steps.0 ∙ inv.same;
-        made = rw (steps.2, items, c.in_ok-empty_column.ensures, c.is_asked-keeps.ensures) more;
+        made = rw (steps.2, items, c.in_ok-empty_column.ensures, asked) more;
       },
     )
 
