@@ -59,14 +59,15 @@ pub(crate) fn number_rows<T: Threads + Sync, R: KeyRows>(
     }
 }
 
-// Whether most of the first rows are each in a group of its own.
+// Whether nearly all of the first rows are each in a group of its own: then there are likely more groups than one
+// table keeps near.
 fn has_many_groups<R: KeyRows>(alloc: Global, rows: &R) -> PolarsResult<bool>
     requires few { HasRowNumbers (R.rows rows.now).count }
     ensures err { IfErr result IsNoMemory }
 {
     let sample = SAMPLE_ROWS.min(rows.len());
     let some = number_range(alloc, rows, (0, sample))?;
-    Ok(some.first.len() > sample / 4 * 3)
+    Ok(some.first.len() > sample / 32 * 31)
 }
 
 // The numbers of all rows by one table.

@@ -100,8 +100,8 @@ fn join_oldest<R: Threads>(
     }
 }
 
-// Waits for the oldest thread where there are more than workers. False where some line does not read: then all
-// is held again.
+// Waits for the oldest thread where there are two for each worker: while the oldest is waited for, none is idle. False
+// where some line does not read: then all is held again.
 fn make_room<R: Threads>(
     rt: &R,
     workers: usize,
@@ -114,7 +114,7 @@ fn make_room<R: Threads>(
     ensures held { IfOk result (λ took. OnTrue took
         (ahead.new.held.items ≡ ahead.old.held.items)) }
 {
-    if ahead.jobs.len() <= workers {
+    if ahead.jobs.len() < workers.saturating_mul(2) {
         return Ok(true);
     }
     let took = join_oldest(rt, ahead, columns)?;
@@ -224,7 +224,7 @@ fn send_block<R: Threads>(
     }
 }
 
-// Waits for the oldest thread where there are more than workers, and has one more read what is held. False
+// Waits for the oldest thread where there are two for each worker, and has one more read what is held. False
 // where the source has ended, there is one line alone, or lines do not read.
 fn turn<R: Threads>(
     rt: &R,
@@ -371,8 +371,8 @@ fn let_go<R: Threads>(rt: &R, ahead: Ahead) {
     }
 }
 
-/// The frame of the columns and of all that the source has left, behind what is held. It is read by as many
-/// threads as workers, and one more that waits for its turn.
+/// The frame of the columns and of all that the source has left, behind what is held. It is read by two threads
+/// for each worker.
 pub fn read_queued<R: Threads + Sync, S: Source>(
     rt: &R,
     alloc: Global,
