@@ -14,7 +14,6 @@ use crate::agg::Agg;
 use gb_base::error::{PolarsError, PolarsResult};
 use gb_base::small_str::PlSmallStr;
 use gb_series::frame::DataFrame;
-use gb_series::named_columns::NamedColumns;
 use gb_series::series::Series;
 use std::alloc::Global;
 
@@ -48,7 +47,7 @@ pub(crate) fn check_height(height: usize) -> PolarsResult<()>
 }
 
 // That the frame has the columns.
-pub(crate) fn check_columns(frame: &NamedColumns<'_>, aggs: &[Agg]) -> PolarsResult<()>
+pub(crate) fn check_columns(frame: &DataFrame, aggs: &[Agg]) -> PolarsResult<()>
     ensures ok { OnOk result (missing_fault frame.now (aggs_of aggs.now) ≡ None) }
     ensures err { IfErr result (λ e. Explains e (missing_fault frame.now (aggs_of aggs.now))) }
 {
@@ -59,7 +58,7 @@ pub(crate) fn check_columns(frame: &NamedColumns<'_>, aggs: &[Agg]) -> PolarsRes
 }
 
 // That the frame has the column of an aggregate that needs one.
-fn check_column(frame: &NamedColumns<'_>, agg: &Agg) -> PolarsResult<()>
+fn check_column(frame: &DataFrame, agg: &Agg) -> PolarsResult<()>
     ensures ok { OnOk result (missing_cause frame.now agg.now ≡ None) }
     ensures err { IfErr result (λ e. Explains e (missing_cause frame.now agg.now)) }
 {

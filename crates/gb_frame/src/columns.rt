@@ -22,7 +22,7 @@ use gb_base::pool::Pool;
 use gb_cols::series_trait::SeriesTrait;
 use gb_flat::shares::{join_shares, map_shares};
 use gb_groups::view::GroupsView;
-use gb_series::named_columns::NamedColumns;
+use gb_series::frame::DataFrame;
 use gb_series::series::Series;
 use std::alloc::{AllocError, Global};
 use std::thread::Threads;
@@ -109,7 +109,7 @@ pub(crate) fn first_rows(alloc: Global, groups: &GroupsView<'_>) -> Result<Vec<I
 pub(crate) fn aggregates<R: Threads + Sync>(
     rt: &R,
     alloc: Global,
-    frame: &NamedColumns<'_>,
+    frame: &DataFrame,
     aggs: &[Agg],
     over: &Over<'_>,
     pool: &Pool,
@@ -134,7 +134,7 @@ pub(crate) fn aggregates<R: Threads + Sync>(
 fn agg_column<R: Threads + Sync>(
     rt: &R,
     alloc: Global,
-    frame: &NamedColumns<'_>,
+    frame: &DataFrame,
     agg: &Agg,
     over: &Over<'_>,
     pool: &Pool,
@@ -159,7 +159,7 @@ fn agg_column<R: Threads + Sync>(
 fn found_aggregate<R: Threads + Sync>(
     rt: &R,
     alloc: Global,
-    frame: &NamedColumns<'_>,
+    frame: &DataFrame,
     agg: &Agg,
     over: &Over<'_>,
     pool: &Pool,

@@ -30,7 +30,6 @@ use gb_paths::by_keys::classes_by_detected;
 use gb_paths::classes::Classes;
 use gb_paths::trace::Trace;
 use gb_series::frame::DataFrame;
-use gb_series::named_columns::NamedColumns;
 use gb_series::series::Series;
 use std::alloc::Global;
 use std::thread::Threads;
@@ -79,17 +78,16 @@ pub fn group_agg_traced<R: Threads + Sync, G: Gate + Sync>(
         Explains e (fault frame.now (keys_in by.now) (aggs_of aggs.now))) }
 {
     let keys = fit_keys(alloc, frame, lent_keys(alloc, by)?)?;
-    let named = frame.by_name()?;
-    check_columns(&named, aggs)?;
+    check_columns(frame, aggs)?;
     let lent = lend(alloc, &keys)?;
-    answer_over(rt, alloc, &named, &lent, aggs, options, pool, gate)
+    answer_over(rt, alloc, frame, &lent, aggs, options, pool, gate)
 }
 
 // The same by keys that all have as many rows as the frame, or as each other.
 fn answer_over<R: Threads + Sync, G: Gate + Sync>(
     rt: &R,
     alloc: Global,
-    frame: &NamedColumns<'_>,
+    frame: &DataFrame,
     keys: &[&Series],
     aggs: &[Agg],
     options: GroupOptions,
@@ -145,7 +143,7 @@ fn go_by_numbers(aggs: &[Agg]) -> bool
 fn answer_columns<R: Threads + Sync>(
     rt: &R,
     alloc: Global,
-    frame: &NamedColumns<'_>,
+    frame: &DataFrame,
     keys: &[&Series],
     aggs: &[Agg],
     classes: Classes,
@@ -171,7 +169,7 @@ fn answer_columns<R: Threads + Sync>(
 fn class_aggregates<R: Threads + Sync>(
     rt: &R,
     alloc: Global,
-    frame: &NamedColumns<'_>,
+    frame: &DataFrame,
     aggs: &[Agg],
     classes: &Classes,
     pool: &Pool,

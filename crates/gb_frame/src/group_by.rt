@@ -127,10 +127,9 @@ impl<'a> GroupBy<'a> {
     ) -> PolarsResult<DataFrame>
         ensures { Answers self.now (aggs_of aggs.now) result }
     {
-        let named = self.frame.by_name()?;
-        check_columns(&named, aggs)?;
+        check_columns(self.frame, aggs)?;
         let over = Over::Groups(self.groups.view());
-        let mut folded = aggregates(rt, alloc, &named, aggs, &over, pool)?;
+        let mut folded = aggregates(rt, alloc, self.frame, aggs, &over, pool)?;
         let mut columns = self.keys(alloc)?;
         columns.append(&mut folded)?;
         DataFrame::new(columns)

@@ -15,4 +15,5 @@ pub mod PlainWordLemmas
 pub mod RowBytesLemmas
 pub mod RunLemmas
 pub mod SeveralLemmas
+pub mod TextLemmas
 pub mod TupleLemmas

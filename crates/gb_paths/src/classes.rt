@@ -136,6 +136,7 @@ pub(crate) fn classes_of_keys<T: Threads + Sync, G: Gate + Sync>(
 }
 
 // The numbers of the groups of rows by keys in any form.
+#[tactic(auto, using(crate::proofs::TextLemmas::texts_few))]
 fn number_keys<T: Threads + Sync>(
     rt: &T,
     alloc: Global,

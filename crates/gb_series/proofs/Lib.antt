@@ -5,7 +5,6 @@ pub mod ColumnLemmas
 pub mod FieldLemmas
 pub mod FrameLemmas
 pub mod ListLemmas
-pub mod NamedColumnsLemmas
 pub mod PieceLemmas
 pub mod ResultLemmas
 pub mod RowLemmas

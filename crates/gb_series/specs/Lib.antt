@@ -3,7 +3,6 @@ pub mod Arrays
 pub mod Depth
 pub mod Falls
 pub mod Frame
-pub mod NamedColumns
 pub mod Nulls
 pub mod Rows
 pub mod Series

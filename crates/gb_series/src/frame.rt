@@ -10,14 +10,13 @@ ghost use Rattle.gb_series.specs.Series.{value_of};
 
 use crate::append::{append_all, refuse_unlike};
 use crate::flatten::part_of;
-use crate::named_columns::NamedColumns;
 use crate::series::{Column, Series};
 use gb_base::error::{PolarsError, PolarsResult};
 use gb_base::name_set::{NameSet, repeated};
 use gb_base::nullable_idx::IdxSize;
 use gb_base::small_str::PlSmallStr;
 use gb_cols::series_trait::SeriesTrait;
-use std::alloc::{AllocError, Global};
+use std::alloc::Global;
 use std::marker::Model;
 
 /// Columns of one length with different names.
@@ -123,14 +122,6 @@ impl DataFrame {
                 Err(PolarsError::ColumnNotFound(name))
             }
         }
-    }
-
-    /// The columns by their names, for those who seek many. Takes as many comparisons of names as there are
-    /// columns, times the logarithm of their number.
-    pub fn by_name(&self) -> Result<NamedColumns<'_>, AllocError>
-        ensures { IfOk result (λ named. named ≡ self.now) }
-    {
-        NamedColumns::new(*self.columns.allocator(), &self.columns)
     }
 
     /// The slots of these rows, in one chunk a column.

@@ -6,7 +6,6 @@ mod append;
 pub mod flatten;
 pub mod frame;
 pub mod into_series;
-pub mod named_columns;
 pub mod nested;
 mod of_type;
 mod same_type;
