@@ -3,6 +3,7 @@ pub mod CauseLemmas
 pub mod GroupByLemmas
 pub mod GroupingLemmas
 pub mod KeyLemmas
+pub mod NamedColumnsLemmas
 pub mod OverLemmas
 pub mod PartLemmas
 pub mod StretchLemmas

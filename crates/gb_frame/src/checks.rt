@@ -11,6 +11,7 @@ ghost use Rattle.gb_frame.specs.Agg.{aggs_of, names_of};
 ghost use Rattle.gb_frame.specs.Grouping.{missing_cause};
 
 use crate::agg::Agg;
+use crate::named_columns::NamedColumns;
 use gb_base::error::{PolarsError, PolarsResult};
 use gb_base::small_str::PlSmallStr;
 use gb_series::frame::DataFrame;
@@ -47,7 +48,7 @@ pub(crate) fn check_height(height: usize) -> PolarsResult<()>
 }
 
 // That the frame has the columns.
-pub(crate) fn check_columns(frame: &DataFrame, aggs: &[Agg]) -> PolarsResult<()>
+pub(crate) fn check_columns(frame: &NamedColumns<'_>, aggs: &[Agg]) -> PolarsResult<()>
     ensures ok { OnOk result (missing_fault frame.now (aggs_of aggs.now) ≡ None) }
     ensures err { IfErr result (λ e. Explains e (missing_fault frame.now (aggs_of aggs.now))) }
 {
@@ -58,7 +59,7 @@ pub(crate) fn check_columns(frame: &DataFrame, aggs: &[Agg]) -> PolarsResult<()>
 }
 
 // That the frame has the column of an aggregate that needs one.
-fn check_column(frame: &DataFrame, agg: &Agg) -> PolarsResult<()>
+fn check_column(frame: &NamedColumns<'_>, agg: &Agg) -> PolarsResult<()>
     ensures ok { OnOk result (missing_cause frame.now agg.now ≡ None) }
     ensures err { IfErr result (λ e. Explains e (missing_cause frame.now agg.now)) }
 {

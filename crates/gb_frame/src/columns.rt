@@ -14,6 +14,7 @@ ghost use Rattle.gb_frame.specs.Agg.{agg_of, aggs_of};
 ghost use Rattle.gb_frame.specs.Grouping.{AreGroupsIn, HasColumn, HasRows, NumberRowsIn, taken_at, aggregates_over, contents_of, firsts_in, unfit_cause};
 
 use crate::agg::Agg;
+use crate::named_columns::NamedColumns;
 use gb_agg::method::fmt_group_by_column;
 use gb_agg::over::{Over, aggregate_over};
 use gb_base::error::PolarsResult;
@@ -22,7 +23,6 @@ use gb_base::pool::Pool;
 use gb_cols::series_trait::SeriesTrait;
 use gb_flat::shares::{join_shares, map_shares};
 use gb_groups::view::GroupsView;
-use gb_series::frame::DataFrame;
 use gb_series::series::Series;
 use std::alloc::{AllocError, Global};
 use std::thread::Threads;
@@ -109,7 +109,7 @@ pub(crate) fn first_rows(alloc: Global, groups: &GroupsView<'_>) -> Result<Vec<I
 pub(crate) fn aggregates<R: Threads + Sync>(
     rt: &R,
     alloc: Global,
-    frame: &DataFrame,
+    frame: &NamedColumns<'_>,
     aggs: &[Agg],
     over: &Over<'_>,
     pool: &Pool,
@@ -134,7 +134,7 @@ pub(crate) fn aggregates<R: Threads + Sync>(
 fn agg_column<R: Threads + Sync>(
     rt: &R,
     alloc: Global,
-    frame: &DataFrame,
+    frame: &NamedColumns<'_>,
     agg: &Agg,
     over: &Over<'_>,
     pool: &Pool,
@@ -159,7 +159,7 @@ fn agg_column<R: Threads + Sync>(
 fn found_aggregate<R: Threads + Sync>(
     rt: &R,
     alloc: Global,
-    frame: &DataFrame,
+    frame: &NamedColumns<'_>,
     agg: &Agg,
     over: &Over<'_>,
     pool: &Pool,

@@ -20,6 +20,7 @@ use crate::agg::Agg;
 use crate::checks::check_columns;
 use crate::columns::{aggregates, keys_by_workers};
 use crate::key::{fit_keys, lend, lent_keys};
+use crate::named_columns::NamedColumns;
 use crate::options::GroupOptions;
 use gb_agg::over::Over;
 use gb_base::device::Gate;
@@ -78,16 +79,17 @@ pub fn group_agg_traced<R: Threads + Sync, G: Gate + Sync>(
         Explains e (fault frame.now (keys_in by.now) (aggs_of aggs.now))) }
 {
     let keys = fit_keys(alloc, frame, lent_keys(alloc, by)?)?;
-    check_columns(frame, aggs)?;
+    let named = NamedColumns::new(alloc, frame.get_columns())?;
+    check_columns(&named, aggs)?;
     let lent = lend(alloc, &keys)?;
-    answer_over(rt, alloc, frame, &lent, aggs, options, pool, gate)
+    answer_over(rt, alloc, &named, &lent, aggs, options, pool, gate)
 }
 
 // The same by keys that all have as many rows as the frame, or as each other.
 fn answer_over<R: Threads + Sync, G: Gate + Sync>(
     rt: &R,
     alloc: Global,
-    frame: &DataFrame,
+    frame: &NamedColumns<'_>,
     keys: &[&Series],
     aggs: &[Agg],
     options: GroupOptions,
@@ -143,7 +145,7 @@ fn go_by_numbers(aggs: &[Agg]) -> bool
 fn answer_columns<R: Threads + Sync>(
     rt: &R,
     alloc: Global,
-    frame: &DataFrame,
+    frame: &NamedColumns<'_>,
     keys: &[&Series],
     aggs: &[Agg],
     classes: Classes,
@@ -169,7 +171,7 @@ fn answer_columns<R: Threads + Sync>(
 fn class_aggregates<R: Threads + Sync>(
     rt: &R,
     alloc: Global,
-    frame: &DataFrame,
+    frame: &NamedColumns<'_>,
     aggs: &[Agg],
     classes: &Classes,
     pool: &Pool,

@@ -7,6 +7,7 @@ use crate::agg::Agg;
 use crate::checks::check_columns;
 use crate::columns::{aggregates, first_rows, keys_at};
 use crate::key::{Key, lend};
+use crate::named_columns::NamedColumns;
 use crate::selection::{named_aggs, other_aggs};
 use gb_agg::method::GroupByMethod;
 use gb_agg::over::Over;
@@ -127,9 +128,10 @@ impl<'a> GroupBy<'a> {
     ) -> PolarsResult<DataFrame>
         ensures { Answers self.now (aggs_of aggs.now) result }
     {
-        check_columns(self.frame, aggs)?;
+        let named = NamedColumns::new(alloc, self.frame.get_columns())?;
+        check_columns(&named, aggs)?;
         let over = Over::Groups(self.groups.view());
-        let mut folded = aggregates(rt, alloc, self.frame, aggs, &over, pool)?;
+        let mut folded = aggregates(rt, alloc, &named, aggs, &over, pool)?;
         let mut columns = self.keys(alloc)?;
         columns.append(&mut folded)?;
         DataFrame::new(columns)

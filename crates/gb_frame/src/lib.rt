@@ -9,5 +9,6 @@ pub mod group_agg;
 pub mod group_by;
 pub mod group_frame;
 pub mod key;
+mod named_columns;
 pub mod options;
 mod selection;

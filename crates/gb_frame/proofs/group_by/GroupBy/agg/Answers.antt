@@ -1,9 +1,10 @@
-use Rattle.std.proofs.Common.{◌≡◌, ◌∙◌, ◌++◌, List, ap, map, subst, sym}
+use Rattle.std.proofs.Common.{◌≡◌, ◌∙◌, ◌++◌, List, None, ap, map, subst, sym}
 use Rattle.std.proofs.lemmas.List.{length-map, map-append}
 use Rattle.std.proofs.lemmas.Result.{IfErr-weaker, IfOk-weaker}
 use Rattle.std.proofs.lemmas.Simd.{map-map}
 use Rattle.gb_base.specs.PolarsError.{Explains}
-use Rattle.gb_defs.specs.Column.{Content, content}
+use Rattle.gb_defs.specs.Column.{Content, Frame, content}
+use Rattle.gb_defs.specs.Fault.{missing_fault, unfit_fault}
 use Rattle.gb_defs.specs.Groups.{Grouping, first_of, lists_in, rows_of_pair}
 use Rattle.gb_series.specs.Frame.{frame_fault}
 use Rattle.gb_series.specs.Series.{value_of}
@@ -27,11 +28,13 @@ returns g c =
     map-map content value_of columns
     ∙ ap contents_of c.in_ok-append.ensures.items
     ∙ map-append (λ (s : Series). content (value_of s)) c.in_ok-columns.columns.items c.in_ok-folded.folded.items
-    ∙ ap (λ (cs : List Content). contents_of c.in_ok-columns.columns.items ++ cs) (c.in_ok-folded.ensures.ok ∙ ap (λ (g : Grouping). aggregates_over frame aggs (lists_in g)) c.view.ensures)
+    ∙ ap (λ (cs : List Content). contents_of c.in_ok-columns.columns.items ++ cs) (c.in_ok-folded.ensures.ok ∙ ap (λ (f : Frame). aggregates_over f aggs (lists_in c.view.result)) (c.in_ok-named.ensures ∙ c.get_columns.ensures)
+    ∙ ap (λ (g : Grouping). aggregates_over frame aggs (lists_in g)) c.view.ensures)
     ∙ ap (λ (cs : List Content). cs ++ aggregates_over frame aggs (lists_in groups)) c.in_ok-columns.ensures.ok in
     let same = length-map groups.pairs first_of ∙ sym (length-map groups.pairs rows_of_pair) in
     let fault : aggs_fault frame keys aggs ≡ frame_fault (map value_of columns) =
-    aggs_named frame keys aggs c.in_ok-check_columns.ensures.ok c.in_ok-folded.ensures.fits self.grouped.some (firsts_in groups) (lists_in groups) same (map value_of columns) are in
+    aggs_named frame keys aggs (subst (λ (f : Frame). missing_fault f aggs ≡ None) (c.in_ok-named.ensures ∙ c.get_columns.ensures) c.in_ok-check_columns.ensures.ok)
+    (subst (λ (f : Frame). unfit_fault f aggs ≡ None) (c.in_ok-named.ensures ∙ c.get_columns.ensures) c.in_ok-folded.ensures.fits) self.grouped.some (firsts_in groups) (lists_in groups) same (map value_of columns) are in
     record {
       ok = IfOk-weaker c.new.result _ _ (λ f made. ap (map content) made.0 ∙ are) c.new.ensures.ok;
       fits = IfOk-weaker c.new.result _ _ (λ f made. fault ∙ made.1) c.new.ensures.ok;
