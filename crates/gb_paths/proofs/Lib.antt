@@ -1,5 +1,6 @@
 pub mod ChoiceLemmas
 pub mod ClassLemmas
+pub mod EachLemmas
 pub mod FormLemmas
 pub mod HashLemmas
 pub mod JoinLemmas
@@ -9,8 +10,10 @@ pub mod LeaderLemmas
 pub mod MemberLemmas
 pub mod NumberingLemmas
 pub mod OrderLemmas
+pub mod PairLemmas
 pub mod PartLemmas
 pub mod PartitionLemmas
+pub mod PlaceLemmas
 pub mod PlainWordLemmas
 pub mod RowBytesLemmas
 pub mod RunLemmas

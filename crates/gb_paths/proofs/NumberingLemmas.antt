@@ -216,7 +216,7 @@ range_moved : {X : Type 0} (g : ℕ → X) (a n : ℕ) → map g (range_with_len
 range_moved g a zero = refl
 range_moved g a (suc n) = let next : a + 1 ≡ suc a = omega arith in ap₂ (λ (k : ℕ) ys. g k ∷ ys) next (range_moved g (a + 1) n)
 
-map_places : {X : Type 0} (f : ℕ → X) (xs : List ℕ) → map (λ k. f (get_or xs k 0)) (range_with_len 0 (length xs)) ≡ map f xs
+pub map_places : {X : Type 0} (f : ℕ → X) (xs : List ℕ) → map (λ k. f (get_or xs k 0)) (range_with_len 0 (length xs)) ≡ map f xs
 map_places f [] = refl
 map_places f (x ∷ xs) = ap (λ ys. f x ∷ ys) (range_moved (λ k. f (get_or (x ∷ xs) k 0)) 0 (length xs) ∙ map_places f xs)
 

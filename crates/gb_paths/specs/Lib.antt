@@ -1,4 +1,5 @@
 pub mod Classes
+pub mod Each
 pub mod Hashes
 pub mod Keys
 pub mod Leaders

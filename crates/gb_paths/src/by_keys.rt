@@ -19,7 +19,8 @@ ghost use Rattle.gb_paths.specs.Tuples.{AreClasses, AreFound, IsNullUnlessValued
 
 use crate::classes::{Classes, classes_by_path, classes_of_keys};
 use crate::into_groups::{group_series, group_tuples_gated, one_run};
-use crate::keys::Keys;
+use crate::keys::{KeyColumn, Keys};
+use crate::number_each::{SeveralKeys, number_each};
 use crate::path::{KeyOrder, KeyPath, Path, choose_path, path_of};
 use gb_base::device::Gate;
 use gb_base::error::PolarsResult;
@@ -200,6 +201,18 @@ fn classes_several<T: Threads + Sync, G: Gate + Sync>(
         let groups = one_run(alloc, keys[0].len())?;
         return Ok((Classes::Groups(groups), Path::Nulls));
     }
+    if by_numbers && sorted {
+        let all = keys_of(alloc, &valued)?;
+        let several = SeveralKeys {
+            keys: &all,
+            count: keys[0].len(),
+            seed: pool.seed(),
+        };
+        if let Some(numbers) = number_each(rt, alloc, &several, pool)? {
+            let path = choose_path(true, keys[0].len(), multithreaded, pool);
+            return Ok((Classes::Numbers(numbers), Path::from(path)));
+        }
+    }
     let made = classes_of_row_bytes(
         rt,
         alloc,
@@ -212,6 +225,18 @@ fn classes_several<T: Threads + Sync, G: Gate + Sync>(
     )?;
     let path = choose_path(true, keys[0].len(), multithreaded, pool);
     Ok((made, Path::from(path)))
+}
+
+// The keys of each column in a form.
+fn keys_of<'a>(alloc: Global, columns: &[&'a Series]) -> PolarsResult<Vec<Keys<'a>>> {
+    let mut all = Vec::with_capacity(alloc, columns.len())?;
+    for column in columns {
+        match column.keys()? {
+            Some(keys) => all.push(keys)?,
+            None => unreachable!(),
+        }
+    }
+    Ok(all)
 }
 
 // The keys that tell rows apart.

@@ -11,6 +11,8 @@ pub mod group_by;
 pub mod into_groups;
 pub mod keys;
 mod leaders;
+mod number_each;
+mod number_pairs;
 mod number_partitions;
 mod number_rows;
 mod number_texts;

@@ -71,7 +71,7 @@ fn has_many_groups<R: KeyRows>(alloc: Global, rows: &R) -> PolarsResult<bool>
 }
 
 // The numbers of all rows by one table.
-fn number_all<R: KeyRows>(alloc: Global, rows: &R) -> PolarsResult<RowNumbers>
+pub(crate) fn number_all<R: KeyRows>(alloc: Global, rows: &R) -> PolarsResult<RowNumbers>
     requires few { HasRowNumbers (R.rows rows.now).count }
     ensures ok { let rows = R.rows rows.now in
         IfOk result (AreNumbersAmong rows (rows_below rows.count)) }
@@ -129,7 +129,7 @@ fn number_range<R: KeyRows>(
 }
 
 // The numbers of the groups of some rows among themselves.
-fn number_members<R: KeyRows, M: Members>(
+pub(crate) fn number_members<R: KeyRows, M: Members>(
     alloc: Global,
     rows: &R,
     members: &M,
@@ -185,7 +185,7 @@ fn number_blank<R: KeyRows, M: Members, H: RowHashes, L: Ledger>(
 }
 
 // The first rows of the parts, part after part.
-fn join_firsts(alloc: Global, parts: &[RowNumbers]) -> Result<Vec<IdxSize>, AllocError>
+pub(crate) fn join_firsts(alloc: Global, parts: &[RowNumbers]) -> Result<Vec<IdxSize>, AllocError>
     ensures { IfOk result (λ firsts. firsts.items ≡ firsts_in parts.now) }
 {
     let mut firsts = Vec::new(alloc);
@@ -196,7 +196,7 @@ fn join_firsts(alloc: Global, parts: &[RowNumbers]) -> Result<Vec<IdxSize>, Allo
 }
 
 // The numbers of the rows, part after part: each row has that of the first row of its part.
-fn renumber(
+pub(crate) fn renumber(
     alloc: Global,
     parts: &[RowNumbers],
     numbers: &[u32],
