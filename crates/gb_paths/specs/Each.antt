@@ -1,5 +1,7 @@
 -- Rows by several keys, each in a form of its own.
-use Rattle.std.specs.Prelude.{◌≡◌, ℕ, ◌<◌, All, Bool, true, ◌&&◌, List, [], ◌∷◌, length}
+use Rattle.std.specs.Prelude.{◌≡◌, ◌≢◌, ℕ, ◌<◌, All, Bool, true, ◌&&◌, List, [], ◌∷◌, length}
+use Rattle.gb_defs.specs.Column.{ColumnValue}
+use Rattle.gb_defs.specs.Path.{NoValues, kind_of}
 use Rattle.gb_defs.specs.Groups.{AreMembers, HasRowNumbers}
 use Rattle.gb_defs.specs.Rows.{same_slot_at}
 use Rattle.gb_paths.specs.Keys.{rows_of_keys}
@@ -20,3 +22,7 @@ pub record HaveRows (seed count : ℕ) (all : List Keys) : Type 0 where
   pub some : 0 < length all
   pub each : All (λ keys. (rows_of_keys seed keys).count ≡ count) all
   pub few : HasRowNumbers count
+
+-- a column has values, and so keys
+abbrev pub HasValues : ColumnValue → Type 0
+HasValues column = kind_of column.dtype ≢ NoValues
