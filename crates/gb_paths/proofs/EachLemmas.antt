@@ -1,14 +1,19 @@
 -- Rows by several keys, each in a form of its own.
-use Rattle.std.proofs.Common.{◌≡◌, ℕ, suc, cond, ◌<◌, Bool, true, false, ◌&&◌, not, List, [], ◌∷◌, ◌++◌, filter, map, nat_lt, refl, sym, ◌∙◌, ap, ap₂}
+use Rattle.std.proofs.Common.{◌≡◌, All, Bor, get_or, length, subst, ℕ, suc, cond, ◌<◌, Bool, true, false, ◌&&◌, not, List, [], ◌∷◌, ◌++◌, filter, map, nat_lt, refl, sym, ◌∙◌, ap, ap₂}
 use Rattle.std.specs.Cmp.{IsEquivalence, on_equiv}
-use Rattle.std.specs.List.{AllByRecursion, list_any}
+use Rattle.std.specs.List.{AllByRecursion, AllZip, list_any}
+use Rattle.std.proofs.lemmas.List.{get_or-map, length-map}
 use Rattle.std.proofs.lemmas.Bool.{and_parts}
 use Rattle.gb_defs.specs.Classes.{firsts, is_first}
 use Rattle.gb_defs.proofs.ClassesLemmas.{all_filter, all_from_below, any_agree_on, filter_agree_on, map_agree_on}
 use Rattle.gb_defs.specs.Rows.{same_slot_at}
 use Rattle.gb_defs.proofs.SlotLemmas.{slot_eq_equiv}
-use Rattle.gb_paths.specs.Each.{agree_in}
-use Rattle.gb_paths.specs.Keys.{rows_of_keys}
+use Rattle.gb_defs.specs.Column.{ColumnValue, Frame}
+use Rattle.gb_rows.specs.Lent.{keys_in}
+use Rattle.gb_series.specs.Series.{value_of}
+use Rattle.gb_series.specs.declared.series.Series.{Series}
+use Rattle.gb_paths.specs.Each.{HasValues, agree_in}
+use Rattle.gb_paths.specs.Keys.{StandFor, rows_of_keys}
 use Rattle.gb_paths.specs.Numbering.{AreNumbersOf, both_agree, number_in}
 use Rattle.gb_paths.specs.declared.keys.Keys.{Keys}
 
@@ -78,3 +83,18 @@ agree_more seed all keys k i j = each all i j k
     each : (all : List Keys) (i j : ℕ) → (agree_in seed all i j && same_slot_at (rows_of_keys seed keys).slot i j) ≡ agree_in seed (all ++ keys ∷ []) i j
     each [] i j = sym (and_true (same_slot_at (rows_of_keys seed keys).slot i j))
     each (x ∷ xs) i j = and_both (same_slot_at (rows_of_keys seed x).slot i j) (agree_in seed xs i j) (same_slot_at (rows_of_keys seed keys).slot i j) ∙ ap (λ b. same_slot_at (rows_of_keys seed x).slot i j && b) (each xs i j)
+
+-- ---- the forms of columns
+
+-- a column among those that have values
+pub column_valued : (columns : List (Bor Series)) (at : ℕ) (column : Bor Series) → at < length columns → column ≡ get_or columns at column → All HasValues (keys_in columns) → HasValues (value_of column.now)
+column_valued columns at column lt is valued =
+    subst HasValues (get_or-map (λ key. value_of key.now) columns at column (value_of column.now) lt ∙ ap (λ key. value_of key.now) (sym is))
+    (valued at (value_of column.now) (rw (length-map columns (λ key. value_of key.now)) lt))
+
+-- one column more, with its form
+pub zip_more : (columns : Frame) (all : List Keys) (column : ColumnValue) (keys : Keys) → AllZip StandFor columns all → StandFor column keys → AllZip StandFor (columns ++ column ∷ []) (all ++ keys ∷ [])
+zip_more [] [] column keys zip one = (one, tt)
+zip_more [] (k ∷ ks) column keys zip one = absurd zip
+zip_more (x ∷ xs) [] column keys zip one = absurd zip
+zip_more (x ∷ xs) (k ∷ ks) column keys zip one = (zip.0, zip_more xs ks column keys zip.1 one)

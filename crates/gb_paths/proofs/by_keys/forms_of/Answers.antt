@@ -1,28 +1,27 @@
-use Rattle.std.proofs.Common.{rules, ◌≡◌, ◌∷◌, ◌<◌, [], All, false, length, true, OnOk, IfOk, IfErr, IfSome, ℕ, ◌+◌, ◌-◌, ◌*◌, ◌≤◌, ◌/◌, ◌%◌, Bool, nat_eq, nat_lt, List, ◌++◌, slice_index_or, slice_set, bit_and, bit_or, Fits, w8, w32, w64, Bor, MutBor}
+use Rattle.std.proofs.Common.{◌≡◌, ◌∙◌, ◌<◌, ◌++◌, ◌∷◌, ◌+◌, [], List, ap, arith, get_or, length, map, subst, sym, take}
+use Rattle.std.specs.Borrow.{Bor}
 use Rattle.std.specs.List.{AllZip}
-use Rattle.gb_defs.specs.Classes.{agree_by, groups, rows_below}
-use Rattle.gb_defs.specs.Column.{frame_height}
-use Rattle.gb_defs.specs.Groups.{HasRowNumbers, IsWellFormed}
-use Rattle.gb_defs.specs.Notes as notes
-use Rattle.gb_base.specs.PlSmallStr.{IsNoMemory}
-use Rattle.gb_cols.specs.Null.{AreNulls}
-use Rattle.gb_groups.specs.GroupsType.{groups_of}
-use Rattle.gb_flat_series.specs.FlatSeries.{column_of}
-use Rattle.gb_series.specs.Series.{value_of}
+use Rattle.std.proofs.lemmas.List.{get_or-map, length-map, map_more}
+use Rattle.gb_defs.specs.Column.{Frame}
 use Rattle.gb_rows.specs.Lent.{keys_in}
-use Rattle.gb_rows.specs.Rows.{AreOfOneLength}
-use Rattle.gb_rows.specs.Told.{AreToldByRows}
-use Rattle.gb_paths.specs.Classes.{NumberAll, grouping_of}
+use Rattle.gb_series.specs.Series.{value_of}
+use Rattle.gb_series.specs.declared.series.Series.{Series}
 use Rattle.gb_paths.specs.Each.{HasValues}
-use Rattle.gb_paths.specs.Keys.{StandFor}
-use Rattle.gb_paths.specs.Numbering.{AreNumbersBy}
-use Rattle.gb_paths.specs.Tuples.{AreClasses, AreFound, IsNullUnlessValued, all_path, path_value, slots_of, tuples_by, tuples_of_bytes}
+use Rattle.gb_paths.specs.Keys.{HasNoValues, StandFor}
+use Rattle.gb_paths.proofs.EachLemmas.{column_valued, zip_more}
 use Rattle.gb_paths.proofs.by_keys.forms_of.Goals as goal
 
--- src/by_keys.rt:263:21
 pub unreachable-requires : goal.unreachable-requires
-unreachable-requires c = ?
+unreachable-requires c =
+    let column = c.column-item.result in
+    let none : HasNoValues (value_of column.now) = rw c.in-None.is at c.in_ok-keys.ensures.ok in
+    column_valued c.args.columns.now c.loop-column.column-index column c.loop-column-test.true c.column-item.is c.requires none.kind
 
--- src/by_keys.rt:260:5
 pub loop-column-preserved : goal.loop-column-preserved
-loop-column-preserved c = ?
+loop-column-preserved c =
+    let columns = c.args.columns.now in
+    let at = c.loop-column.column-index in
+    let column = c.column-item.result in
+    let stand : StandFor (value_of column.now) c.in-Some.keys = rw c.in-Some.is at c.in_ok-keys.ensures.ok in
+    let more = map_more (λ key. value_of key.now) columns at column c.loop-column-test.true ∙ ap (λ key. keys_in (take at columns) ++ value_of key.now ∷ []) (sym c.column-item.is) in
+    rw (more, c.in_ok-push-in-Some.ensures.items) (zip_more (keys_in (take at columns)) c.loop-column.all.items (value_of column.now) c.in-Some.keys c.loop-column.invariant stand)

@@ -14,7 +14,7 @@ number_some-requires-clause-members c κs d within =
     record {
       few = subst HasRowNumbers (sym many) several.rows.few;
       members = subst (λ (n : ℕ). AreMembers n (range_with_len c.new-members.result.start c.new-members.result.count)) (sym many)
-      (subst (λ (rows : List ℕ). AreMembers several.count rows) (sym same) (range_members several.count range.0 range.1 c.requires));
+          (subst (λ (rows : List ℕ). AreMembers several.count rows) (sym same) (range_members several.count range.0 range.1 c.requires));
     }
 
 pub number_some-requires-clause-ascend : goal.number_some-requires-clause-ascend

@@ -20,7 +20,7 @@ loop-place-preserved g c =
     record {
       within = omega (arith, c.loop-place-test.true);
       so_far = subst (λ ks. AreNumbersBy (agree_in seed ks) rows c.in_ok-all-2.all) (sym more)
-      (subst (λ a. AreNumbersBy a rows c.in_ok-all-2.all) (agree_more seed so_far key) paired);
+          (subst (λ a. AreNumbersBy a rows c.in_ok-all-2.all) (agree_more seed so_far key) paired);
     }
 
 pub returns-clause-ok : goal.returns-clause-ok
