@@ -4,6 +4,7 @@ use Rattle.std.proofs.lemmas.Result.{IfErr-weaker, IfOk-weaker, err_from_is_err_
 use Rattle.gb_defs.specs.Column.{IsFrame, content, frame_height}
 use Rattle.gb_defs.specs.Fault.{fault, missing_fault}
 use Rattle.gb_base.specs.PolarsError.{Explains, cause_of}
+use Rattle.gb_defs.specs.Groups.{HasRowNumbers}
 use Rattle.gb_paths.proofs.SeveralLemmas.{also_ok}
 use Rattle.gb_paths.specs.Tuples.{trace_value}
 use Rattle.gb_paths.specs.declared.trace.Trace.{Trace}
@@ -16,7 +17,7 @@ use Rattle.gb_frame.specs.Grouping.{HasHeight}
 use Rattle.gb_frame.specs.Key.{columns_of, stretched_keys}
 use Rattle.gb_frame.specs.Refusals.{aggs_fault, keys_fault}
 use Rattle.gb_frame.proofs.CauseLemmas.{cause_first}
-use Rattle.gb_frame.proofs.KeyLemmas.{keyless_some}
+use Rattle.gb_frame.proofs.KeyLemmas.{fitting_few, keyless_some}
 use Rattle.gb_frame.proofs.StretchLemmas.{answer_sorted, answer_traced, fault_after, fault_parts, has_height, stretched_aligned, stretched_height}
 use Rattle.gb_frame.proofs.group_agg.group_agg_traced.Goals as goal
 
@@ -55,6 +56,15 @@ answer_over-requires-clause-high g c κs within =
     let high : HasHeight frame (frame_height (keys_in c.deref-2.result.now)) =
     subst (HasHeight frame) (sym (ap frame_height same ∙ stretched_height frame keys (keyless_some frame keys none))) (has_height frame keys) in
     subst (λ f. HasHeight f (frame_height (keys_in c.deref-2.result.now))) (sym (c.in_ok-named.ensures ∙ c.get_columns.ensures)) high
+
+pub answer_over-requires-clause-few : goal.answer_over-requires-clause-few
+answer_over-requires-clause-few g c κs within =
+    let frame = c.args.frame.now in
+    let keys = keys_in c.args.by.now in
+    let none : keys_fault frame keys ≡ None = subst (λ ks. keys_fault frame ks ≡ None) c.in_ok-lent_keys.ensures c.in_ok-keys.ensures.fits in
+    let same : keys_in c.deref-2.result.now ≡ stretched_keys frame keys =
+    ap keys_in c.deref-2.ensures.value ∙ c.in_ok-lent.ensures ∙ ap columns_of c.deref.ensures.value ∙ c.in_ok-keys.ensures.ok ∙ ap (stretched_keys frame) c.in_ok-lent_keys.ensures in
+    subst HasRowNumbers (sym (ap frame_height same ∙ stretched_height frame keys (keyless_some frame keys none))) (fitting_few frame keys none)
 
 pub answer_over-requires-clause-aligned : goal.answer_over-requires-clause-aligned
 answer_over-requires-clause-aligned g c κs within =

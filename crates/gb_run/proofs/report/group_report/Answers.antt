@@ -6,6 +6,7 @@ use Rattle.gb_defs.specs.Column.{content, rechunked}
 use Rattle.gb_defs.specs.Notes.{IsTracedIn}
 use Rattle.gb_defs.specs.Outcome.{outcome}
 use Rattle.gb_base.specs.PlSmallStr.{name_of}
+use Rattle.gb_flat.specs.Buffers.{joined}
 use Rattle.gb_paths.specs.Tuples.{trace_value}
 use Rattle.gb_text.specs.Asked.{asked_table}
 use Rattle.gb_frame.specs.Agg.{aggs_of, names_of}
@@ -40,7 +41,7 @@ returns-clause-ok g c =
     let options = options_of c.args.options.now in
     let frame = c.in_ok-frame.frame in
     let trace = trace_value c.in_ok-answer.trace in
-    let text = c.in_ok-text.text.items in
+    let text = joined c.in_ok-text.text.items in
     let line = string_bytes c.in_ok-line.line in
     let some : 0 < length by = rw (length-map c.args.by.now name_of) c.requires.some in
     let read = rw (c.as_str.ensures, c.deref.ensures.value, c.in_ok-names.ensures) at c.in_ok-frame.ensures.ok in

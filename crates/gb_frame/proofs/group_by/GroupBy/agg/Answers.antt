@@ -36,7 +36,7 @@ returns g c =
     aggs_named frame keys aggs (subst (λ (f : Frame). missing_fault f aggs ≡ None) (c.in_ok-named.ensures ∙ c.get_columns.ensures) c.in_ok-check_columns.ensures.ok)
     (subst (λ (f : Frame). unfit_fault f aggs ≡ None) (c.in_ok-named.ensures ∙ c.get_columns.ensures) c.in_ok-folded.ensures.fits) self.grouped.some (firsts_in groups) (lists_in groups) same (map value_of columns) are in
     record {
-      ok = IfOk-weaker c.new.result _ _ (λ f made. ap (map content) made.0 ∙ are) c.new.ensures.ok;
-      fits = IfOk-weaker c.new.result _ _ (λ f made. fault ∙ made.1) c.new.ensures.ok;
-      err = IfErr-weaker c.new.result _ _ (λ e h. subst (Explains e) (sym fault) h) c.new.ensures.err;
+      ok = IfOk-weaker c.new-2.result _ _ (λ f made. ap (map content) made.0 ∙ are) c.new-2.ensures.ok;
+      fits = IfOk-weaker c.new-2.result _ _ (λ f made. fault ∙ made.1) c.new-2.ensures.ok;
+      err = IfErr-weaker c.new-2.result _ _ (λ e h. subst (Explains e) (sym fault) h) c.new-2.ensures.err;
     }
