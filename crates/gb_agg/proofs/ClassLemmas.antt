@@ -1,19 +1,29 @@
 -- The numbers of rows by the lists that have them, and that those of classes tell slots.
-use Rattle.std.proofs.Common.{◌≡◌, ◌∙◌, ℕ, zero, suc, ◌+◌, ◌<◌, ◌≤◌, ◌||◌, ◌&&◌, Bool, true, false, not, cond, inl, inr, eqb, List, [], ◌∷◌, ◌++◌, length, get_or, set, map, refl, sym, ap, arith}
+use Rattle.std.proofs.Common.{◌≡◌, ◌∙◌, ℕ, zero, suc, ◌+◌, ◌<◌, ◌≤◌, ◌||◌, ◌&&◌, Bool, true, false, not, cond, inl, inr, eqb, List, [], ◌∷◌, ◌++◌, length, get_or, set, map, zip, refl, sym, ap, ap₂, arith}
 use Rattle.std.specs.Prelude.{if◌then◌else◌}
 use Rattle.std.specs.Cmp.{IsEquivalence}
 use Rattle.std.specs.List.{list_any}
 use Rattle.std.proofs.lemmas.Bool.{cases_Bool, cases_eq, eq-eqb, ne_eqb, or_parts}
 use Rattle.std.proofs.lemmas.List.{append-nil, get_or_default, get_or-map, get_or-set_other, get_or-set_same, length-map, length-set}
+use Rattle.std.proofs.lemmas.List.Elements.{recursion_from_All}
 use Rattle.std.proofs.lemmas.List.Folds.{list_any-append}
+use Rattle.std.proofs.lemmas.List.FromFn.{get_or-range_with_len, length-range_with_len}
 use Rattle.std.proofs.lemmas.Map.Steps.{list_any_congr}
 use Rattle.std.proofs.lemmas.Map.Views.{any-filter_same}
 use Rattle.std.proofs.lemmas.Simd.{map-map}
 use Rattle.gb_defs.specs.Classes.{agree_by, class, firsts, groups, rows_below, same_slot}
 use Rattle.gb_defs.specs.Groups.{rows_of_pair}
 use Rattle.gb_defs.specs.Slot.{Slot, slot_at}
+use Rattle.gb_defs.proofs.AnswerLemmas.{agree_one}
 use Rattle.gb_defs.proofs.ClassesLemmas.{firsts_few, firsts_push, groups_alike, rows_below_all, rows_below_more}
 use Rattle.gb_defs.proofs.SlotLemmas.{slot_eq_equiv}
+use Rattle.gb_groups.specs.Numbers.{lists_by}
+use Rattle.gb_paths.specs.Numbering as paths
+use Rattle.gb_paths.specs.Numbers.{pairs_by}
+use Rattle.gb_paths.specs.declared.row_numbers.RowNumbers.{RowNumbers}
+use Rattle.gb_paths.proofs.NumberingLemmas.{numbers_told}
+use Rattle.gb_paths.proofs.PairLemmas.{one_number}
+use Rattle.gb_paths.proofs.PartLemmas.{range_rises}
 use Rattle.gb_agg.specs.Distinct.{AreClasses, AreNumbered, is_listed, number_from, numbered}
 
 -- ---- one row more takes a number
@@ -264,3 +274,29 @@ pub classes_few : (agree : ℕ → ℕ → Bool) (n : ℕ) (pairs : List (ℕ ×
 unfolding groups
 classes_few agree n pairs is =
     omega (arith, ap (λ (ps : List (ℕ × List ℕ)). length ps) is, length-map {B = ℕ × List ℕ} (firsts agree (rows_below n)) (λ i. (i, class agree (rows_below n) i)), firsts_few agree n)
+
+-- ---- classes by numbers
+
+row_itself : (n i : ℕ) → i < n → get_or (rows_below n) i 0 ≡ i
+row_itself n i lt = let e : 0 + i ≡ i = omega arith in get_or-range_with_len 0 n i 0 lt ∙ e
+
+-- the numbers of the groups of slots are those of their classes
+pub classes_numbered : (slots : List Slot) (made : RowNumbers) → (paths.numbered made).pairs ≡ groups (agree_by (slots ∷ [])) (rows_below (length slots))
+    → length made.of_rows.items ≡ length slots → AreClasses slots (length made.first.items) made.of_rows.items
+classes_numbered slots made is many =
+    let agree = same_slot slots in
+    let n = length slots in
+    let rows = rows_below n in
+    let first = made.first.items in
+    let all = made.of_rows.items in
+    let long : length rows ≡ n = length-range_with_len 0 n in
+    let grouped : zip first (lists_by rows all (length first)) ≡ groups agree rows =
+    ap (λ m. pairs_by (rows_below m) all first) (sym many) ∙ is ∙ ap (λ a. groups a rows) (agree_one slots) in
+    let are = numbers_told agree (same_laws slots) rows all first (range_rises 0 n) (many ∙ sym long) (recursion_from_All (λ number. number < length first) all made.known) grouped in
+    record {
+      as_many = many;
+      known = made.known;
+      tell = λ i j here there.
+          sym (one_number agree (same_laws slots) rows first all (range_rises 0 n) are i j (rw long here) (rw long there)
+          ∙ ap₂ agree (row_itself n i here) (row_itself n j there));
+    }

@@ -20,7 +20,8 @@ use gb_cols::primitive::UInt32Chunked;
 use gb_cols::series_trait::SeriesTrait;
 use gb_groups::groups_type::GroupsIndicator;
 use gb_groups::view::GroupsView;
-use gb_paths::by_keys::group_by_detected;
+use gb_paths::by_keys::classes_by_detected;
+use gb_paths::classes::Classes;
 use gb_series::series::Series;
 use std::alloc::Global;
 use std::thread::Threads;
@@ -56,11 +57,26 @@ fn column_classes<R: Threads + Sync>(
         AreClasses (value_of column.now).slots made.1 made.0.items) }
     ensures err { IfErr result IsNoMemory }
 {
-    let multithreaded = true;
-    let sorted = true;
-    let (groups, _) = group_by_detected(rt, &[column], multithreaded, sorted, pool, &FreeGate)?;
-    let numbers = class_numbers(column.allocator(), &groups, column.len())?;
-    Ok((numbers, groups.len()))
+    let (multithreaded, sorted, by_numbers) = (true, true, true);
+    let (classes, _) = classes_by_detected(
+        rt,
+        &[column],
+        multithreaded,
+        sorted,
+        by_numbers,
+        pool,
+        &FreeGate,
+    )?;
+    match classes {
+        Classes::Numbers(numbers) => {
+            let count = numbers.first.len();
+            Ok((numbers.of_rows, count))
+        }
+        Classes::Groups(groups) => {
+            let numbers = class_numbers(column.allocator(), &groups, column.len())?;
+            Ok((numbers, groups.len()))
+        }
+    }
 }
 
 // How many of the numbers of each group's rows differ. There are so many numbers.

@@ -1,51 +1,25 @@
 -- Rows by several keys, each in a form of its own.
-use Rattle.std.proofs.Common.{◌≡◌, All, Bor, get_or, length, subst, ℕ, suc, cond, ◌<◌, Bool, true, false, ◌&&◌, not, List, [], ◌∷◌, ◌++◌, filter, map, nat_lt, refl, sym, ◌∙◌, ap, ap₂}
+use Rattle.std.proofs.Common.{◌≡◌, All, Bor, get_or, length, subst, ℕ, ◌<◌, ◌==◌, Bool, true, false, ◌&&◌, inl, inr, List, [], ◌∷◌, ◌++◌, refl, sym, ◌∙◌, ap, ap₂}
 use Rattle.std.specs.Cmp.{IsEquivalence, on_equiv}
-use Rattle.std.specs.List.{AllByRecursion, AllZip, list_any}
+use Rattle.std.specs.List.{AllByRecursion, AllZip}
 use Rattle.std.proofs.lemmas.List.{get_or-map, length-map}
-use Rattle.std.proofs.lemmas.Bool.{and_parts}
-use Rattle.gb_defs.specs.Classes.{firsts, is_first}
-use Rattle.gb_defs.proofs.ClassesLemmas.{all_filter, all_from_below, any_agree_on, filter_agree_on, map_agree_on}
+use Rattle.std.proofs.lemmas.List.Elements.{All-from_recursion}
+use Rattle.std.proofs.lemmas.Slice.Zip.{AllZip-long}
+use Rattle.std.proofs.lemmas.Bool.{and_parts, cases_Bool, eqb-true}
+use Rattle.gb_defs.specs.Classes.{agree_by}
+use Rattle.gb_defs.specs.Groups.{HasRowNumbers}
 use Rattle.gb_defs.specs.Rows.{same_slot_at}
 use Rattle.gb_defs.proofs.SlotLemmas.{slot_eq_equiv}
-use Rattle.gb_defs.specs.Column.{ColumnValue, Frame}
+use Rattle.gb_defs.specs.Column.{ColumnValue, Frame, all_have_length, frame_height}
 use Rattle.gb_rows.specs.Lent.{keys_in}
+use Rattle.gb_rows.specs.Rows.{AreOfOneLength}
 use Rattle.gb_series.specs.Series.{value_of}
 use Rattle.gb_series.specs.declared.series.Series.{Series}
-use Rattle.gb_paths.specs.Each.{HasValues, agree_in}
+use Rattle.gb_paths.specs.Each.{HasValues, HaveRows, agree_in}
 use Rattle.gb_paths.specs.Keys.{StandFor, rows_of_keys}
-use Rattle.gb_paths.specs.Numbering.{AreNumbersOf, both_agree, number_in}
+use Rattle.gb_paths.specs.Numbering.{both_agree}
+use Rattle.gb_paths.specs.Tuples.{slots_of}
 use Rattle.gb_paths.specs.declared.keys.Keys.{Keys}
-
--- ---- numbers of some rows that agree alike
-
-module _ (a b : ℕ → ℕ → Bool) (n : ℕ) (alike : (i j : ℕ) → i < n → j < n → a i j ≡ b i j) (rows : List ℕ) (below : AllByRecursion (λ row. row < n) rows) where
-  first_same : (i : ℕ) → i < n → is_first a rows i ≡ is_first b rows i
-  unfolding is_first
-  first_same i lt =
-      ap not (any_agree_on (λ j. nat_lt j i && a i j) (λ j. nat_lt j i && b i j) rows
-      (all_from_below (λ j. (nat_lt j i && a i j) ≡ (nat_lt j i && b i j)) n (λ j lt'. ap (λ t. nat_lt j i && t) (alike i j lt lt')) rows below))
-
-  firsts_same : firsts a rows ≡ firsts b rows
-  unfolding firsts
-  firsts_same = filter_agree_on (is_first a rows) (is_first b rows) rows (all_from_below (λ i. is_first a rows i ≡ is_first b rows i) n first_same rows below)
-
-  firsts_low : AllByRecursion (λ row. row < n) (firsts a rows)
-  unfolding firsts
-  firsts_low = all_filter (λ row. row < n) (is_first a rows) rows below
-
-  number_same : (row : ℕ) → row < n → (fs : List ℕ) → AllByRecursion (λ f. f < n) fs → number_in a fs row ≡ number_in b fs row
-  number_same row lt [] low = refl
-  number_same row lt (f ∷ fs) low = ap₂ (λ (t : Bool) (k : ℕ). cond t 0 (suc k)) (alike row f lt low.0) (number_same row lt fs low.1)
-
-  pub members_alike : (first numbers : List ℕ) → AreNumbersOf a rows first numbers → AreNumbersOf b rows first numbers
-  members_alike first numbers are =
-      let low : AllByRecursion (λ f. f < n) first = rw are.first_is firsts_low in
-      record {
-        first_is = are.first_is ∙ firsts_same;
-        numbers_are = are.numbers_are ∙ map_agree_on (number_in a first) (number_in b first) rows
-            (all_from_below (λ i. number_in a first i ≡ number_in b first i) n (λ i lt. number_same i lt first low) rows below);
-      }
 
 -- ---- rows that agree by several keys
 
@@ -98,3 +72,35 @@ zip_more [] [] column keys zip one = (one, tt)
 zip_more [] (k ∷ ks) column keys zip one = absurd zip
 zip_more (x ∷ xs) [] column keys zip one = absurd zip
 zip_more (x ∷ xs) (k ∷ ks) column keys zip one = (zip.0, zip_more xs ks column keys zip.1 one)
+
+-- columns in forms agree by these as by their slots
+pub forms_agree : (seed n : ℕ) (columns : Frame) (all : List Keys) → all_have_length n columns ≡ true → AllZip StandFor columns all → (i j : ℕ) → i < n → j < n
+    → agree_in seed all i j ≡ agree_by (slots_of columns) i j
+forms_agree seed n [] [] aligned zip i j low high = refl
+forms_agree seed n [] (k ∷ ks) aligned zip i j low high = absurd zip
+forms_agree seed n (x ∷ xs) [] aligned zip i j low high = absurd zip
+forms_agree seed n (x ∷ xs) (k ∷ ks) aligned zip i j low high = elim (cases_Bool (length x.slots == n)) [
+  | inl e ↦
+      let many : length x.slots ≡ n = eqb-true (length x.slots) n e in
+      ap₂ (λ (p q : Bool). p && q) (sym ((zip.0.rows seed).agree i j (rw many low) (rw many high)))
+      (forms_agree seed n xs ks (rw e at aligned) zip.1 i j low high)
+  | inr short ↦ cc (rw short at aligned)
+]
+
+-- and have as many rows
+forms_many : (seed n : ℕ) (columns : Frame) (all : List Keys) → all_have_length n columns ≡ true → AllZip StandFor columns all → AllByRecursion (λ keys. (rows_of_keys seed keys).count ≡ n) all
+forms_many seed n [] [] aligned zip = tt
+forms_many seed n [] (k ∷ ks) aligned zip = absurd zip
+forms_many seed n (x ∷ xs) [] aligned zip = absurd zip
+forms_many seed n (x ∷ xs) (k ∷ ks) aligned zip = elim (cases_Bool (length x.slots == n)) [
+  | inl e ↦ ((zip.0.rows seed).many ∙ eqb-true (length x.slots) n e, forms_many seed n xs ks (rw e at aligned) zip.1)
+  | inr short ↦ cc (rw short at aligned)
+]
+
+pub forms_rows : (seed : ℕ) (columns : Frame) (all : List Keys) → AreOfOneLength columns → HasRowNumbers (frame_height columns) → 0 < length columns → AllZip StandFor columns all
+    → HaveRows seed (frame_height columns) all
+forms_rows seed columns all aligned few some zip = record {
+  some = subst (λ n. 0 < n) (sym (AllZip-long StandFor columns all zip)) some;
+  each = All-from_recursion (λ keys. (rows_of_keys seed keys).count ≡ frame_height columns) all (forms_many seed (frame_height columns) columns all aligned zip);
+  few = few;
+}

@@ -13,12 +13,12 @@ use Rattle.std.proofs.lemmas.Simd.{map-map}
 use Rattle.gb_defs.specs.Classes.{firsts, is_first, rows_below}
 use Rattle.gb_defs.specs.Hash.{partition_of}
 use Rattle.gb_defs.specs.Partitions.{in_partition}
-use Rattle.gb_defs.proofs.ClassesLemmas.{all_filter, all_from_below, firsts_alike, firsts_few, firsts_inside, firsts_push, map_agree_on, rows_below_all, rows_below_more}
+use Rattle.gb_defs.proofs.ClassesLemmas.{all_filter, firsts_few, firsts_push, map_agree_on, rows_below_all, rows_below_more}
 use Rattle.gb_paths.specs.Leaders.{AreLeaders, leader_in, led, put_at, put_parts, same_leader}
 use Rattle.gb_paths.specs.declared.leaders.LedRows.{LedRows}
 use Rattle.gb_paths.specs.Partitions.{rows_by_partition}
 use Rattle.gb_paths.specs.Numbering.{AreNumbersOf, number_in}
-use Rattle.gb_paths.proofs.NumberingLemmas.{all_found, any_at, before_it, found_all, numbers_known, opened, same_number}
+use Rattle.gb_paths.proofs.NumberingLemmas.{all_found, any_at, before_it, found_all, members_alike, numbers_known, opened, same_number}
 
 -- ---- the first row that agrees
 
@@ -168,21 +168,10 @@ module _ (agree : ℕ → ℕ → Bool) (equiv : IsEquivalence agree) where
           ]
         ])
 
--- ---- numbers of rows that agree alike
+-- ---- numbers of all rows that agree alike
 
-module _ (a b : ℕ → ℕ → Bool) (n : ℕ) (alike : (i j : ℕ) → i < n → j < n → a i j ≡ b i j) where
-  number_alike : (row : ℕ) → row < n → (fs : List ℕ) → AllByRecursion (λ f. f < n) fs → number_in a fs row ≡ number_in b fs row
-  number_alike row lt [] below = refl
-  number_alike row lt (f ∷ fs) below = ap₂ (λ (t : Bool) (k : ℕ). cond t 0 (suc k)) (alike row f lt below.0) (number_alike row lt fs below.1)
-
-  pub numbers_alike : (first numbers : List ℕ) → AreNumbersOf a (rows_below n) first numbers → AreNumbersOf b (rows_below n) first numbers
-  numbers_alike first numbers are =
-      let below : AllByRecursion (λ f. f < n) first = rw are.first_is (firsts_inside a b n alike) in
-      record {
-        first_is = are.first_is ∙ firsts_alike a b n alike;
-        numbers_are = are.numbers_are ∙ map_agree_on (number_in a first) (number_in b first) (rows_below n)
-            (all_from_below (λ i. number_in a first i ≡ number_in b first i) n (λ i lt. number_alike i lt first below) (rows_below n) (rows_below_all n));
-      }
+pub numbers_alike : (a b : ℕ → ℕ → Bool) (n : ℕ) → ((i j : ℕ) → i < n → j < n → a i j ≡ b i j) → (first numbers : List ℕ) → AreNumbersOf a (rows_below n) first numbers → AreNumbersOf b (rows_below n) first numbers
+numbers_alike a b n alike = members_alike a b n alike (rows_below n) (rows_below_all n)
 
 -- ---- numbers of one row more
 

@@ -10,7 +10,7 @@ use Rattle.std.proofs.lemmas.List.Elements.{All-from_recursion, filter-append, f
 use Rattle.std.proofs.lemmas.List.Kept.{AllPairs-from_increasing, IsStrictlyIncreasing-filter}
 use Rattle.std.proofs.lemmas.List.Folds.{list_any-append}
 use Rattle.gb_defs.specs.Classes.{class, firsts, groups, is_first}
-use Rattle.gb_defs.proofs.ClassesLemmas.{all_append, all_filter, filter_agree_on, firsts_push}
+use Rattle.gb_defs.proofs.ClassesLemmas.{all_append, all_filter, all_from_below, any_agree_on, filter_agree_on, firsts_push, map_agree_on}
 use Rattle.gb_defs.specs.Groups.{first_of, rows_of_pair}
 use Rattle.gb_groups.specs.Numbers.{lists_by, rows_of}
 use Rattle.gb_groups.proofs.NumberLemmas.{map_range_same, rows_by}
@@ -415,3 +415,29 @@ module _ (agree : ℕ → ℕ → Bool) (equiv : IsEquivalence agree) (rows : Li
   -- each row has the number of a group
   pub numbers_known : (first numbers : List ℕ) → AreNumbersOf agree rows first numbers → AllByRecursion (λ number. number < length first) numbers
   numbers_known first numbers are = rw (are.numbers_are, are.first_is) (known_all (firsts agree rows) rows all_found)
+
+-- ---- numbers of some rows that agree alike
+
+module _ (a b : ℕ → ℕ → Bool) (n : ℕ) (alike : (i j : ℕ) → i < n → j < n → a i j ≡ b i j) (rows : List ℕ) (below : AllByRecursion (λ row. row < n) rows) where
+  first_same : (i : ℕ) → i < n → is_first a rows i ≡ is_first b rows i
+  unfolding is_first
+  first_same i lt =
+      ap not (any_agree_on (λ j. nat_lt j i && a i j) (λ j. nat_lt j i && b i j) rows
+      (all_from_below (λ j. (nat_lt j i && a i j) ≡ (nat_lt j i && b i j)) n (λ j lt'. ap (λ t. nat_lt j i && t) (alike i j lt lt')) rows below))
+
+  firsts_same : firsts a rows ≡ firsts b rows
+  unfolding firsts
+  firsts_same = filter_agree_on (is_first a rows) (is_first b rows) rows (all_from_below (λ i. is_first a rows i ≡ is_first b rows i) n first_same rows below)
+
+  number_same : (row : ℕ) → row < n → (fs : List ℕ) → AllByRecursion (λ f. f < n) fs → number_in a fs row ≡ number_in b fs row
+  number_same row lt [] low = refl
+  number_same row lt (f ∷ fs) low = ap₂ (λ (t : Bool) (k : ℕ). cond t 0 (suc k)) (alike row f lt low.0) (number_same row lt fs low.1)
+
+  pub members_alike : (first numbers : List ℕ) → AreNumbersOf a rows first numbers → AreNumbersOf b rows first numbers
+  members_alike first numbers are =
+      let low : AllByRecursion (λ f. f < n) first = rw are.first_is (firsts_low a (λ row. row < n) rows below) in
+      record {
+        first_is = are.first_is ∙ firsts_same;
+        numbers_are = are.numbers_are ∙ map_agree_on (number_in a first) (number_in b first) rows
+            (all_from_below (λ i. number_in a first i ≡ number_in b first i) n (λ i lt. number_same i lt first low) rows below);
+      }

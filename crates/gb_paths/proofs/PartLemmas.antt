@@ -237,6 +237,12 @@ module _ (agree : ℕ → ℕ → Bool) (equiv : IsEquivalence agree) where
           ∙ ap (map (number_in agree first)) (ranges_all count m some);
     }
 
+    -- and so do their numbers in a list of their own, over as many rows
+    pub all_numbered : (all : ℕ) → count ≡ all → (first numbers made : List ℕ) → AreNumbersOf agree (firsts_in parts) first numbers → made ≡ renumbered numbers parts → AreNumbersOf agree (rows_below all) first made
+    all_numbered all many first numbers made are is =
+        subst (λ (ns : List ℕ). AreNumbersOf agree (rows_below all) first ns) (sym is)
+        (subst (λ n. AreNumbersOf agree (rows_below n) first (renumbered numbers parts)) many (parts_together first numbers are))
+
 -- ---- groups by numbers
 
 -- rows whose groups are numbered have these groups, on a path in the order of first rows

@@ -31,8 +31,13 @@ use Rattle.gb_rows.specs.Rows.{AreOfOneLength, row_slots}
 use Rattle.gb_rows.specs.Told.{AreToldByRows}
 use Rattle.gb_paths.specs.Keys.{null_rows}
 use Rattle.gb_defs.specs.Notes.{has_values, is_valued, path_by_keys, valued_keys}
-use Rattle.gb_paths.specs.Tuples.{IsNullUnlessValued, all_path, rows_of_all, slots_at, slots_of, tuples_by, tuples_of_bytes}
+use Rattle.gb_paths.specs.Numbering.{AreNumbersUnder, numbered}
+use Rattle.gb_paths.specs.declared.path.KeyPath.{KeyPath}
+use Rattle.gb_paths.specs.declared.row_numbers.RowNumbers.{RowNumbers}
+use Rattle.gb_paths.specs.Tuples.{IsNullUnlessValued, all_path, key_path_value, rows_of_all, slots_at, slots_of, tuples_by, tuples_of_bytes}
 use Rattle.gb_paths.proofs.KeyFormLemmas.{parts_by_variant}
+use Rattle.gb_paths.proofs.LeaderLemmas.{numbers_alike}
+use Rattle.gb_paths.proofs.PartLemmas.{numbers_path}
 use Rattle.gb_paths.proofs.RowBytesLemmas.{row_at, rows_many}
 use Rattle.gb_paths.proofs.RunLemmas.{null_at}
 use Rattle.gb_paths.proofs.TupleLemmas.{sorted_path, sorted_tuples}
@@ -207,6 +212,25 @@ module _ (keys : Frame) (many : 1 < length keys) (aligned : AreOfOneLength keys)
       all_run keys aligned nulls none (seed_of pool)
       ∙ ap (λ ks. path.path_groups (path_by_keys ks (frame_height keys) multithreaded (workers_of pool) (threshold_of pool)) rows 0 (partitions_of pool) sorted) (sym none)
       ∙ sym (several keys multithreaded sorted pool many)
+
+  -- by the numbers of the groups of the keys that tell rows apart
+  pub tuples_by_numbers : 0 < length (valued_keys keys) → (path : KeyPath) (numbers : RowNumbers)
+      → key_path_value path ≡ path.hashed_path true (frame_height keys) multithreaded (workers_of pool) (threshold_of pool)
+      → AreNumbersUnder (agree_by (slots_of (valued_keys keys))) (rows_below (frame_height (valued_keys keys))) numbers
+      → (numbered numbers ≡ tuples_by keys multithreaded true pool) × (length numbers.of_rows.items ≡ frame_height keys)
+  tuples_by_numbers some way numbers is are =
+      let n = frame_height keys in
+      let rows = rows_of_all (seed_of pool) keys in
+      let alike : (i j : ℕ) → i < n → j < n → agree_by (slots_of (valued_keys keys)) i j ≡ same_slot_at (slots_at keys) i j =
+      λ i j low high. sym (ap (λ f. f i j) (all_agree keys) ∙ valued_agree keys (by_recursion keys aligned nulls) i j) in
+      let low : AreNumbersUnder (agree_by (slots_of (valued_keys keys))) (rows_below n) numbers =
+      subst (λ m. AreNumbersUnder (agree_by (slots_of (valued_keys keys))) (rows_below m) numbers) (valued_height keys aligned some) are in
+      let by = numbers_path rows way pool numbers (numbers_alike (agree_by (slots_of (valued_keys keys))) (same_slot_at (slots_at keys)) n alike numbers.first.items numbers.of_rows.items low) in (
+        by.groups
+            ∙ ap (λ p. path.path_groups p rows 0 (partitions_of pool) true) (is ∙ sym (some_path (valued_keys keys) n multithreaded (workers_of pool) (threshold_of pool) some))
+            ∙ sym (several keys multithreaded true pool many),
+        by.many,
+      )
 
 -- two facts of one value
 pub also_ok : {A E : Type 0} (r : Result A E) (P Q : A → Type 0) → IfOk r P → IfOk r Q → IfOk r (λ x. P x × Q x)

@@ -18,9 +18,13 @@ pub record AreNumbersOf (agree : ℕ → ℕ → Bool) (rows first numbers : Lis
   pub first_is : first ≡ firsts agree rows
   pub numbers_are : numbers ≡ map (number_in agree first) rows
 
--- of some rows
+-- the numbers of some rows by which rows agree
+abbrev pub AreNumbersUnder : (ℕ → ℕ → Bool) → List ℕ → RowNumbers → Type 0
+AreNumbersUnder agree rows numbers = AreNumbersOf agree rows numbers.first.items numbers.of_rows.items
+
+-- of some rows by what they hold
 abbrev pub AreNumbersAmong : Rows → List ℕ → RowNumbers → Type 0
-AreNumbersAmong rows members numbers = AreNumbersOf (same_slot_at rows.slot) members numbers.first.items numbers.of_rows.items
+AreNumbersAmong rows members numbers = AreNumbersUnder (same_slot_at rows.slot) members numbers
 
 -- the groups of rows whose numbers they are, in the order of their first rows
 abbrev pub numbered : RowNumbers → Grouping
@@ -52,10 +56,6 @@ renumbered numbers [] = []
 renumbered numbers (part ∷ parts) = map (λ place. get_or numbers place 0) part.of_rows.items ++ renumbered (drop (length part.first.items) numbers) parts
 
 -- ---- numbers by two keys
-
--- the numbers of some rows by which rows agree
-abbrev pub AreNumbersBy : (ℕ → ℕ → Bool) → List ℕ → RowNumbers → Type 0
-AreNumbersBy agree rows numbers = AreNumbersOf agree rows numbers.first.items numbers.of_rows.items
 
 -- two rows agree by both
 abbrev pub both_agree : (ℕ → ℕ → Bool) → (ℕ → ℕ → Bool) → ℕ → ℕ → Bool

@@ -18,7 +18,7 @@ ghost use Rattle.gb_rows.specs.Told.{AreToldByRows};
 ghost use Rattle.gb_paths.specs.Classes.{NumberAll, grouping_of};
 ghost use Rattle.gb_paths.specs.Each.{HasValues};
 ghost use Rattle.gb_paths.specs.Keys.{StandFor};
-ghost use Rattle.gb_paths.specs.Numbering.{AreNumbersBy};
+ghost use Rattle.gb_paths.specs.Numbering.{AreNumbersUnder};
 ghost use Rattle.gb_paths.specs.Tuples.{AreClasses, AreFound, IsNullUnlessValued, all_path, path_value, slots_of, tuples_by, tuples_of_bytes};
 
 use crate::classes::{Classes, classes_by_path, classes_of_keys};
@@ -206,9 +206,9 @@ fn classes_several<T: Threads + Sync, G: Gate + Sync>(
         let groups = one_run(alloc, keys[0].len())?;
         return Ok((Classes::Groups(groups), Path::Nulls));
     }
+    let path = choose_path(true, keys[0].len(), multithreaded, pool);
     if by_numbers && sorted {
         if let Some(numbers) = numbers_several(rt, alloc, &valued, pool)? {
-            let path = choose_path(true, keys[0].len(), multithreaded, pool);
             return Ok((Classes::Numbers(numbers), Path::from(path)));
         }
     }
@@ -222,7 +222,6 @@ fn classes_several<T: Threads + Sync, G: Gate + Sync>(
         pool,
         gate,
     )?;
-    let path = choose_path(true, keys[0].len(), multithreaded, pool);
     Ok((made, Path::from(path)))
 }
 
@@ -238,7 +237,7 @@ fn numbers_several<T: Threads + Sync>(
     requires few { HasRowNumbers (frame_height (keys_in keys.now)) }
     requires valued { All HasValues (keys_in keys.now) }
     ensures ok { let keys = keys_in keys.now in IfOk result (λ found. IfSome found
-        (AreNumbersBy (agree_by (slots_of keys)) (rows_below (frame_height keys)))) }
+        (AreNumbersUnder (agree_by (slots_of keys)) (rows_below (frame_height keys)))) }
     ensures err { IfErr result IsNoMemory }
 {
     let all = forms_of(alloc, keys)?;

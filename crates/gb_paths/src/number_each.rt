@@ -6,7 +6,7 @@ ghost use Rattle.std.specs.List.Sorted.{IsStrictlyIncreasing};
 ghost use Rattle.gb_defs.specs.Groups.{AreMembers, HasRowNumbers};
 ghost use Rattle.gb_base.specs.PlSmallStr.{IsNoMemory};
 ghost use Rattle.gb_paths.specs.Keys.{byte_rows, rows_of_keys};
-ghost use Rattle.gb_paths.specs.Numbering.{AreNumbersAmong, AreNumbersBy};
+ghost use Rattle.gb_paths.specs.Numbering.{AreNumbersAmong, AreNumbersUnder};
 ghost use Rattle.gb_paths.specs.Numbers.{text_rows};
 ghost use Rattle.gb_defs.specs.Classes.{rows_below};
 ghost use Rattle.gb_paths.specs.Each.{HasMembers, HaveRows, agree_in};
@@ -53,7 +53,7 @@ pub(crate) fn number_each<T: Threads + Sync>(
     pool: &Pool,
 ) -> PolarsResult<Option<RowNumbers>>
     ensures ok { let all = rows_below several.now.count in IfOk result (λ found.
-        IfSome found (AreNumbersBy (agree_in several.now.seed several.now.keys.now) all)) }
+        IfSome found (AreNumbersUnder (agree_in several.now.seed several.now.keys.now) all)) }
     ensures err { IfErr result IsNoMemory }
 {
     let sample = SAMPLE_ROWS.min(several.count);
@@ -76,12 +76,12 @@ fn number_by_workers<T: Threads + Sync>(
 ) -> PolarsResult<RowNumbers>
     requires some { 1 ≤ workers }
     ensures ok { let all = rows_below several.now.count in IfOk result
-        (AreNumbersBy (agree_in several.now.seed several.now.keys.now) all) }
+        (AreNumbersUnder (agree_in several.now.seed several.now.keys.now) all) }
     ensures err { IfErr result IsNoMemory }
 {
     let part = |range: (usize, usize)|
         requires { range.0 + range.1 ≤ several.now.count }
-        ensures { IfOk result (AreNumbersBy (agree_in several.entry.now.seed several.entry.now.keys.now)
+        ensures { IfOk result (AreNumbersUnder (agree_in several.entry.now.seed several.entry.now.keys.now)
             (range_with_len range.0 range.1))
             × IfErr result IsNoMemory }
     { number_range(alloc, several, range) };
@@ -104,7 +104,7 @@ fn number_range(
 ) -> PolarsResult<RowNumbers>
     requires { range.0 + range.1 ≤ several.now.count }
     ensures ok { let rows = range_with_len range.0 range.1 in IfOk result
-        (AreNumbersBy (agree_in several.now.seed several.now.keys.now) rows) }
+        (AreNumbersUnder (agree_in several.now.seed several.now.keys.now) rows) }
     ensures err { IfErr result IsNoMemory }
 {
     let members = RangeRows::new(range.0, range.1);
@@ -122,7 +122,7 @@ fn number_some<M: Members>(
     requires members { All (HasMembers seed (M.listed members.now)) keys.now }
     requires ascend { IsStrictlyIncreasing (M.listed members.now) }
     ensures ok { let rows = M.listed members.now in
-        IfOk result (AreNumbersBy (agree_in seed keys.now) rows) }
+        IfOk result (AreNumbersUnder (agree_in seed keys.now) rows) }
     ensures err { IfErr result IsNoMemory }
 {
     let mut all = number_one(alloc, &keys[0], members, seed)?;

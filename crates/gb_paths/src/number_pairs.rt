@@ -4,7 +4,7 @@ ghost use Rattle.std.specs.Prelude.{◌≡◌, ℕ, ◌<◌, All, Bool, IfErr, I
 ghost use Rattle.std.specs.Cmp.{IsEquivalence};
 ghost use Rattle.std.specs.List.Sorted.{IsStrictlyIncreasing};
 ghost use Rattle.gb_base.specs.PlSmallStr.{IsNoMemory};
-ghost use Rattle.gb_paths.specs.Numbering.{AreNumbersBy, ArePairs, both_agree};
+ghost use Rattle.gb_paths.specs.Numbering.{AreNumbersUnder, ArePairs, both_agree};
 
 use crate::number_rows::number_all;
 use crate::row_numbers::RowNumbers;
@@ -28,8 +28,8 @@ pub(crate) fn number_pairs<M: Members>(
     requires back { length back.now.of_rows.items ≡ length (M.listed members.now) }
     ensures ok { let rows = M.listed members.now in (a b : ℕ → ℕ → Bool)
         → IsEquivalence a → IsEquivalence b
-        → AreNumbersBy a rows front.now → AreNumbersBy b rows back.now
-        → IfOk result (AreNumbersBy (both_agree a b) rows) }
+        → AreNumbersUnder a rows front.now → AreNumbersUnder b rows back.now
+        → IfOk result (AreNumbersUnder (both_agree a b) rows) }
     ensures err { IfErr result IsNoMemory }
 {
     let words = pair_words(alloc, &front.of_rows, &back.of_rows)?;

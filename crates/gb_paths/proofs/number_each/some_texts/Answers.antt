@@ -10,7 +10,7 @@ use Rattle.gb_hash.specs.Short.{IsShort, short_rows}
 use Rattle.gb_hash.proofs.ShortLemmas.{short_same}
 use Rattle.gb_paths.specs.Numbering.{AreNumbersAmong}
 use Rattle.gb_paths.specs.Numbers.{text_rows}
-use Rattle.gb_paths.proofs.EachLemmas.{members_alike}
+use Rattle.gb_paths.proofs.NumberingLemmas.{members_alike}
 use Rattle.gb_paths.proofs.number_each.some_texts.Goals as goal
 
 pub returns-in-Some-clause-ok : goal.returns-in-Some-clause-ok

@@ -9,7 +9,7 @@ use Rattle.gb_defs.proofs.SlotLemmas.{slot_eq_equiv}
 use Rattle.gb_paths.specs.Numbering.{AreNumbersAmong, AreNumbersOf, firsts_in, number_in, renumbered}
 use Rattle.gb_paths.specs.declared.row_numbers.RowNumbers.{RowNumbers}
 use Rattle.gb_paths.proofs.NumberingLemmas.{numbers_known}
-use Rattle.gb_paths.proofs.PartLemmas.{parts_members, parts_together, range_rises, rows_at}
+use Rattle.gb_paths.proofs.PartLemmas.{all_numbered, parts_members, range_rises}
 use Rattle.gb_paths.proofs.number_rows.number_by_workers.Goals as goal
 
 pub number_members-requires-clause-members : goal.number_members-requires-clause-members
@@ -20,15 +20,6 @@ number_members-requires-clause-members g c κs within =
     (λ k d lt. (c.in_ok-parts.ensures.each k d lt).1.0) in
     rw (c.deref-2.ensures.value, c.in_ok-firsts.ensures, c.deref.ensures.value) (rw c.len-count.ensures at members)
 
--- what the parts' numbers come to
-all_numbers : (rows : Rows) (count workers : ℕ) (parts : List RowNumbers) (first numbers made : List ℕ) → count ≡ rows.count → 0 < workers → length parts ≡ workers →
-    ((k : ℕ) (d : RowNumbers) → k < workers → AreNumbersOf (same_slot_at rows.slot) (rows_at count workers k) (get_or parts k d).first.items (get_or parts k d).of_rows.items) →
-    AreNumbersOf (same_slot_at rows.slot) (firsts_in parts) first numbers → made ≡ renumbered numbers parts → AreNumbersOf (same_slot_at rows.slot) (rows_below rows.count) first made
-all_numbers rows count workers parts first numbers made many some long each mine is =
-    let agree = same_slot_at rows.slot in
-    let all = parts_together agree (on_equiv rows.slot slot_eq_equiv) count workers some parts long each first numbers mine in
-    subst (λ (ns : List ℕ). AreNumbersOf agree (rows_below rows.count) first ns) (sym is) (subst (λ n. AreNumbersOf agree (rows_below n) first (renumbered numbers parts)) many all)
-
 pub invariant_of-result-clause-known : goal.invariant_of-result-clause-known
 invariant_of-result-clause-known g c =
     let rows = g.R.KeyRows.rows c.args.rows.now in
@@ -38,8 +29,8 @@ invariant_of-result-clause-known g c =
     let listed = c.deref-2.ensures.value ∙ c.in_ok-firsts.ensures ∙ ap firsts_in c.deref.ensures.value in
     let mine : AreNumbersAmong rows (firsts_in parts) c.in_ok-all.all = subst (λ rs. AreNumbersAmong rows rs c.in_ok-all.all) listed c.in_ok-all.ensures.ok in
     let made = c.in_ok-of_rows.ensures ∙ ap (λ ns. renumbered ns c.deref-3.result.now) c.deref-4.ensures.value ∙ ap (renumbered numbers) c.deref-3.ensures.value in
-    let all = all_numbers rows c.len-count.result c.args.workers parts first numbers c.in_ok-of_rows.of_rows.items c.len-count.ensures (omega arith) c.in_ok-parts.ensures.len
-    (λ k d lt. (c.in_ok-parts.ensures.each k d lt).1.0) mine made in
+    let all = all_numbered (same_slot_at rows.slot) (on_equiv rows.slot slot_eq_equiv) c.len-count.result c.args.workers c.requires.some parts c.in_ok-parts.ensures.len
+    (λ k d lt. (c.in_ok-parts.ensures.each k d lt).1.0) rows.count c.len-count.ensures first numbers c.in_ok-of_rows.of_rows.items mine made in
     All-from_recursion _ c.in_ok-of_rows.of_rows.items
     (numbers_known (same_slot_at rows.slot) (on_equiv rows.slot slot_eq_equiv) (rows_below rows.count) (range_rises 0 rows.count) first c.in_ok-of_rows.of_rows.items all)
 
@@ -52,8 +43,8 @@ invariant_of-result-clause-few g c =
     let listed = c.deref-2.ensures.value ∙ c.in_ok-firsts.ensures ∙ ap firsts_in c.deref.ensures.value in
     let mine : AreNumbersAmong rows (firsts_in parts) c.in_ok-all.all = subst (λ rs. AreNumbersAmong rows rs c.in_ok-all.all) listed c.in_ok-all.ensures.ok in
     let made = c.in_ok-of_rows.ensures ∙ ap (λ ns. renumbered ns c.deref-3.result.now) c.deref-4.ensures.value ∙ ap (renumbered numbers) c.deref-3.ensures.value in
-    let all = all_numbers rows c.len-count.result c.args.workers parts first numbers c.in_ok-of_rows.of_rows.items c.len-count.ensures (omega arith) c.in_ok-parts.ensures.len
-    (λ k d lt. (c.in_ok-parts.ensures.each k d lt).1.0) mine made in
+    let all = all_numbered (same_slot_at rows.slot) (on_equiv rows.slot slot_eq_equiv) c.len-count.result c.args.workers c.requires.some parts c.in_ok-parts.ensures.len
+    (λ k d lt. (c.in_ok-parts.ensures.each k d lt).1.0) rows.count c.len-count.ensures first numbers c.in_ok-of_rows.of_rows.items mine made in
     let many : length c.in_ok-of_rows.of_rows.items ≡ rows.count = ap length all.numbers_are ∙ length-map (rows_below rows.count) (number_in (same_slot_at rows.slot) first) ∙ length-range_with_len 0 rows.count in
     omega (arith, many, c.requires.few)
 
@@ -66,6 +57,6 @@ returns-clause-ok g c =
     let listed = c.deref-2.ensures.value ∙ c.in_ok-firsts.ensures ∙ ap firsts_in c.deref.ensures.value in
     let mine : AreNumbersAmong rows (firsts_in parts) c.in_ok-all.all = subst (λ rs. AreNumbersAmong rows rs c.in_ok-all.all) listed c.in_ok-all.ensures.ok in
     let made = c.in_ok-of_rows.ensures ∙ ap (λ ns. renumbered ns c.deref-3.result.now) c.deref-4.ensures.value ∙ ap (renumbered numbers) c.deref-3.ensures.value in
-    let all = all_numbers rows c.len-count.result c.args.workers parts first numbers c.in_ok-of_rows.of_rows.items c.len-count.ensures (omega arith) c.in_ok-parts.ensures.len
-    (λ k d lt. (c.in_ok-parts.ensures.each k d lt).1.0) mine made in
+    let all = all_numbered (same_slot_at rows.slot) (on_equiv rows.slot slot_eq_equiv) c.len-count.result c.args.workers c.requires.some parts c.in_ok-parts.ensures.len
+    (λ k d lt. (c.in_ok-parts.ensures.each k d lt).1.0) rows.count c.len-count.ensures first numbers c.in_ok-of_rows.of_rows.items mine made in
     all
