@@ -3,6 +3,7 @@ use Rattle.std.proofs.Common.{◌≡◌, ◌∙◌, ◌⊎◌, ap, sym, refl, su
 use Rattle.std.specs.Prelude.{if◌then◌else◌}
 use Rattle.std.specs.Int.{Width, w32}
 use Rattle.std.specs.List.{AllByRecursion, fold}
+use Rattle.std.proofs.lemmas.List.{map-append}
 use Rattle.std.proofs.lemmas.List.Sums.{fold-append}
 use Rattle.gb_compare.specs.Placed.{placed_below, text_type}
 use Rattle.gb_defs.proofs.FoldLemmas.{valid_push_null, valid_push_value}
@@ -143,6 +144,21 @@ extreme_found g c rows s is = is ∙ sym (extreme_fold g c rows)
 pub extreme_none : (g : Bool) (c : ColumnValue) (rows : List ℕ) → length rows ≡ 0 → slot_at c.slots (length c.slots) ≡ fold_in (extreme g) c rows
 extreme_none g c [] none = behind c.slots ∙ sym (extreme_fold g c [] ∙ none_extreme g c.dtype)
 extreme_none g c (row ∷ rows) none = absurd (omega (arith, none))
+
+-- the row of one more, where its slot is better, or the one before
+pub extreme_more : (g : Bool) (c : ColumnValue) (rows : List ℕ) (row so_far : ℕ) → slot_at c.slots so_far ≡ fold_in (extreme g) c rows
+    → slot_at c.slots (if is_better g c.dtype (slot_at c.slots row) (slot_at c.slots so_far) then row else so_far) ≡ fold_in (extreme g) c (rows ++ row ∷ [])
+extreme_more g c rows row so_far is =
+    inside (is_better g c.dtype (slot_at c.slots row) (slot_at c.slots so_far))
+    ∙ extreme_found g c (rows ++ row ∷ []) _ (slot_more g c.dtype (picked c.slots rows) (slot_at c.slots row) (slot_at c.slots so_far) (is ∙ extreme_fold g c rows)
+    ∙ ap (λ ss. extreme_of g c.dtype (valid ss)) (sym (map-append (slot_at c.slots) rows (row ∷ []))))
+  where
+    inside : (b : Bool) → slot_at c.slots (if b then row else so_far) ≡ (if b then slot_at c.slots row else slot_at c.slots so_far)
+    inside true = refl
+    inside false = refl
+
+pub extreme_one : (g : Bool) (c : ColumnValue) (row : ℕ) → slot_at c.slots row ≡ fold_in (extreme g) c (row ∷ [])
+extreme_one g c row = extreme_found g c (row ∷ []) (slot_at c.slots row) (slot_first g c.dtype (slot_at c.slots row))
 
 pub extreme_type : (g : Bool) (t : ColumnType) → fold_type (extreme g) t ≡ t
 extreme_type false t = refl

@@ -1,15 +1,16 @@
--- What is known of the slots of each group, one row more.
-use Rattle.std.proofs.Common.{◌≡◌, ◌∙◌, ap, sym, refl, subst, ap₂, ℕ, suc, ◌+◌, ◌<◌, cond, map, pos, ℤ, inl, inr, eqb, false, List, [], ◌∷◌, ◌++◌, All, length, get_or, set, take, arith}
+-- What is known of the rows of each group, one row more.
+use Rattle.std.proofs.Common.{◌≡◌, ◌∙◌, ap, sym, refl, subst, ap₂, ℕ, suc, ◌+◌, ◌<◌, ◌≤◌, ◌==◌, cond, map, pos, ℤ, inl, inr, eqb, false, List, [], ◌∷◌, ◌++◌, All, Option, None, Some, length, get_or, replicate, set, take, arith}
 use Rattle.std.specs.List.{range_with_len}
 use Rattle.std.proofs.lemmas.List.Elements.{All-from_recursion}
 use Rattle.std.proofs.lemmas.List.FromFn.{length-range_with_len}
 use Rattle.std.proofs.lemmas.Simd.{map-map}
-use Rattle.std.proofs.lemmas.Bool.{cases_eq, eq-eqb, ne_eqb}
-use Rattle.std.proofs.lemmas.List.{append-nil, get_or-set_other, get_or-set_same, length-set, length-take, map-append, take_all, take_more}
+use Rattle.std.proofs.lemmas.Bool.{cases_Bool, cases_eq, cases_lt, eq-eqb, ne_eqb}
+use Rattle.std.proofs.lemmas.List.{append-nil, get_or-replicate, get_or-set_other, get_or-set_same, length-replicate, length-set, length-take, take_all, take_more}
 use Rattle.gb_defs.specs.Classes.{rows_below}
+use Rattle.gb_defs.specs.Column.{ColumnValue}
 use Rattle.gb_defs.specs.ColumnType.{ColumnType}
-use Rattle.gb_defs.specs.Fold.{Sum, fold_of, fold_picked, picked, total, valid, wrap}
-use Rattle.gb_defs.specs.Groups.{lists_in}
+use Rattle.gb_defs.specs.Fold.{Count, Sum, fold_of, fold_picked, picked, total, valid, wrap}
+use Rattle.gb_defs.specs.Groups.{HasRowNumbers, lists_in}
 use Rattle.gb_defs.specs.Slot.{Slot, Nil, Num, slot_at}
 use Rattle.gb_defs.proofs.ClassesLemmas.{rows_below_all}
 use Rattle.gb_paths.specs.Numbering.{numbered}
@@ -17,14 +18,19 @@ use Rattle.gb_paths.specs.declared.row_numbers.RowNumbers.{RowNumbers}
 use Rattle.gb_paths.proofs.NumberingLemmas.{pairs_lists}
 use Rattle.gb_groups.proofs.NumberLemmas.{length-rows_of, map_range_same, rows_push}
 use Rattle.gb_groups.specs.Numbers.{count_of, counts_by, lists_by, rows_of}
-use Rattle.gb_agg.specs.Folds.{rows_fold}
-use Rattle.gb_agg.specs.Numbered.{HoldEach}
+use Rattle.gb_values.specs.Array.{native_slot}
+use Rattle.gb_agg.specs.Folds.{fold_in, rows_fold}
+use Rattle.gb_agg.specs.Numbered.{HoldEach, HoldRows, HoldsCount, holds_at}
+use Rattle.gb_agg.specs.Picks.{ArePicks, IsPicked}
 
-module _ {S : Type 0} (holds : List Slot → S → Type 0) (slots : List Slot) (rows numbers : List ℕ) (groups : ℕ) where
+module _ {S : Type 0} (holds : List ℕ → S → Type 0) (rows numbers : List ℕ) (groups : ℕ) where
   -- before any row
-  pub each_none : (states : List S) → length states ≡ groups → All (holds []) states → HoldEach holds slots (take 0 rows) (take 0 numbers) groups states
+  pub each_none : (start : S) (states : List S) → states ≡ replicate groups start → holds [] start → HoldRows holds (take 0 rows) (take 0 numbers) groups states
   unfolding rows_of
-  each_none states long fresh = record { as_many = long; each = λ k d lt. fresh k d (omega (arith, lt, long)) }
+  each_none start states is fresh = record {
+    as_many = ap length is ∙ length-replicate groups start;
+    each = λ k d lt. rw (is, get_or-replicate groups k start d lt) fresh;
+  }
 
   module _ (each : length numbers ≡ length rows) (n number row : ℕ) (lt : n < length numbers) (is : get_or numbers n 0 ≡ number) (row_is : get_or rows n 0 ≡ row) where
     rows_more : (k : ℕ) → rows_of (take (n + 1) rows) (take (n + 1) numbers) k ≡ rows_of (take n rows) (take n numbers) k ++ cond (eqb number k) (row ∷ []) []
@@ -34,18 +40,15 @@ module _ {S : Type 0} (holds : List Slot → S → Type 0) (slots : List Slot) (
         rw (take_more numbers n 0 lt, is, take_more rows n 0 inside, row_is, rows_push (take n rows) (take n numbers) row number k as_long)
 
     pub each_more : (states : List S) (new : S) → number < groups
-        → ((before : List Slot) → holds before (get_or states number new) → holds (before ++ slot_at slots row ∷ []) new)
-        → HoldEach holds slots (take n rows) (take n numbers) groups states → HoldEach holds slots (take (n + 1) rows) (take (n + 1) numbers) groups (set states number new)
+        → ((before : List ℕ) → holds before (get_or states number new) → holds (before ++ row ∷ []) new)
+        → HoldRows holds (take n rows) (take n numbers) groups states → HoldRows holds (take (n + 1) rows) (take (n + 1) numbers) groups (set states number new)
     each_more states new inside more have = record {
       as_many = length-set states number new ∙ have.as_many;
       each = λ k d in_set. elim (cases_eq k number) [
         | inl here ↦
             let before = rows_of (take n rows) (take n numbers) number in
             let last : rows_of (take (n + 1) rows) (take (n + 1) numbers) number ≡ before ++ row ∷ [] = rw (rows_more number, eq-eqb number number refl) in
-            let slots_more : picked slots (rows_of (take (n + 1) rows) (take (n + 1) numbers) number) ≡ picked slots before ++ slot_at slots row ∷ [] =
-            ap (picked slots) last ∙ map-append (slot_at slots) before (row ∷ []) in
-            let known = more (picked slots before) (have.each number new inside) in
-            rw (here, get_or-set_same states number new d (omega (arith, inside, have.as_many)), slots_more) known
+            rw (here, get_or-set_same states number new d (omega (arith, inside, have.as_many)), last) (more before (have.each number new inside))
         | inr away ↦
             let other : eqb number k ≡ false = ne_eqb number k (λ h. away (sym h)) in
             let kept : rows_of (take (n + 1) rows) (take (n + 1) numbers) k ≡ rows_of (take n rows) (take n numbers) k = rw (rows_more k, other, append-nil) in
@@ -54,10 +57,10 @@ module _ {S : Type 0} (holds : List Slot → S → Type 0) (slots : List Slot) (
     }
 
   -- once all rows are taken
-  pub each_all : (n : ℕ) (states : List S) → length numbers ≡ length rows → (length numbers < n + 1) → HoldEach holds slots (take n rows) (take n numbers) groups states → HoldEach holds slots rows numbers groups states
+  pub each_all : (n : ℕ) (states : List S) → length numbers ≡ length rows → (length numbers < n + 1) → HoldRows holds (take n rows) (take n numbers) groups states → HoldRows holds rows numbers groups states
   each_all n states each all have =
-      subst (λ (rs : List ℕ). HoldEach holds slots rs numbers groups states) (take_all n rows (omega (arith, each, all)))
-      (subst (λ (ns : List ℕ). HoldEach holds slots (take n rows) ns groups states) (take_all n numbers (omega (arith, all))) have)
+      subst (λ (rs : List ℕ). HoldRows holds rs numbers groups states) (take_all n rows (omega (arith, each, all)))
+      (subst (λ (ns : List ℕ). HoldRows holds (take n rows) ns groups states) (take_all n numbers (omega (arith, all))) have)
 
 -- ---- states as slots
 
@@ -69,13 +72,13 @@ states_by slot_of f (state ∷ states) j each =
     ap₂ (λ (s : Slot) ss. s ∷ ss) (rw first at (each 0 state (omega arith)))
     (states_by slot_of f states (j + 1) (λ k d lt. let next : j + suc k ≡ j + 1 + k = omega arith in rw next at (each (suc k) d (omega (arith, lt)))))
 
--- what is known of each group's slots is what is made of its rows
-pub states_folded : {S : Type 0} (holds : List Slot → S → Type 0) (slot_of : S → Slot) (fold : List ℕ → Slot) (slots : List Slot) (rows numbers : List ℕ) (groups : ℕ) (states : List S) →
-    ((some : List ℕ) (state : S) → holds (picked slots some) state → slot_of state ≡ fold some) → HoldEach holds slots rows numbers groups states →
+-- what is known of each group's rows is what is made of them
+pub states_folded : {S : Type 0} (holds : List ℕ → S → Type 0) (slot_of : S → Slot) (fold : List ℕ → Slot) (rows numbers : List ℕ) (groups : ℕ) (states : List S) →
+    ((k : ℕ) (state : S) → holds (rows_of rows numbers k) state → slot_of state ≡ fold (rows_of rows numbers k)) → HoldRows holds rows numbers groups states →
     map slot_of states ≡ map fold (lists_by rows numbers groups)
-states_folded holds slot_of fold slots rows numbers groups states means have =
+states_folded holds slot_of fold rows numbers groups states means have =
     states_by slot_of (λ k. fold (rows_of rows numbers k)) states 0 (λ k d lt. let here : 0 + k ≡ k = omega arith in
-    rw here (means (rows_of rows numbers k) (get_or states k d) (have.each k d (omega (arith, lt, have.as_many)))))
+    rw here (means k (get_or states k d) (have.each k d (omega (arith, lt, have.as_many)))))
     ∙ ap (λ n. map (λ k. fold (rows_of rows numbers k)) (range_with_len 0 n)) have.as_many
     ∙ sym (map-map fold (rows_of rows numbers) (range_with_len 0 groups))
 
@@ -96,8 +99,8 @@ sum_of t slots rows = refl
 pub sums_folded : {S : Type 0} (number : S → ℤ) (t : ColumnType) (slots : List Slot) (rows numbers : List ℕ) (groups : ℕ) (sums : List S) →
     HoldEach (λ some sum. number sum ≡ wrap t (total (valid some))) slots rows numbers groups sums → map (λ sum. Num (number sum)) sums ≡ map (fold_of Sum t slots) (lists_by rows numbers groups)
 sums_folded number t slots rows numbers groups sums have =
-    states_folded (λ some sum. number sum ≡ wrap t (total (valid some))) (λ sum. Num (number sum)) (fold_of Sum t slots) slots rows numbers groups sums
-    (λ some sum known. ap (λ n. Num n) known ∙ sym (sum_of t slots some)) have
+    states_folded (holds_at (λ some sum. number sum ≡ wrap t (total (valid some))) slots) (λ sum. Num (number sum)) (fold_of Sum t slots) rows numbers groups sums
+    (λ k sum known. ap (λ n. Num n) known ∙ sym (sum_of t slots (rows_of rows numbers k))) have
 
 -- ---- numbers of all rows
 
@@ -125,3 +128,55 @@ counts_numbered numbers groups given same known =
     ∙ ap (λ n. map (λ n. Num (pos n)) (counts_by numbers.of_rows.items n)) known
     ∙ counts_folded rows numbers.of_rows.items (length numbers.first.items) (sym (length-range_with_len 0 (length numbers.of_rows.items)))
     ∙ ap (map rows_fold) (sym (pairs_lists rows numbers.of_rows.items numbers.first.items))
+
+-- ---- what is picked, and how many are valid
+
+-- rows of a group are among all
+few_of : (rows numbers : List ℕ) (k : ℕ) → length numbers ≡ length rows → length (rows_of rows numbers k) ≤ length numbers
+unfolding rows_of
+few_of [] [] k same = omega arith
+few_of [] (number ∷ numbers) k same = absurd (omega (arith, same))
+few_of (row ∷ rows) [] k same = absurd (omega (arith, same))
+few_of (row ∷ rows) (number ∷ numbers) k same = elim (cases_Bool (number == k)) [
+  | inl e ↦ let rest = few_of rows numbers k (omega (arith, same)) in rw e (omega (arith, rest))
+  | inr e ↦ let rest = few_of rows numbers k (omega (arith, same)) in rw e (omega (arith, rest))
+]
+
+module _ (c : ColumnValue) (numbers : RowNumbers) where
+  abbrev rows : List ℕ
+  rows = rows_below (length numbers.of_rows.items)
+
+  abbrev all : List ℕ
+  all = numbers.of_rows.items
+
+  as_long : length all ≡ length rows
+  as_long = sym (length-range_with_len 0 (length all))
+
+  -- what is picked of each group, one row after another
+  pub picks_numbered : (fold : List ℕ → Slot) (picks : List ℕ) → HoldRows (IsPicked c fold) rows all (length numbers.first.items) picks → ArePicks c fold (lists_in (numbered numbers)) picks
+  picks_numbered fold picks have = record {
+    inside = λ k d lt.
+        let is = have.each k d (omega (arith, lt, have.as_many)) in
+        elim (cases_lt 0 (length (rows_of rows all k))) [
+          | inl some ↦ omega (arith, is.some some)
+          | inr none ↦ omega (arith, is.none (omega (arith, none)))
+        ];
+    picked =
+        states_folded (IsPicked c fold) (slot_at c.slots) fold rows all (length numbers.first.items) picks (λ k pick is. is.picked) have
+        ∙ ap (map fold) (sym (pairs_lists rows all numbers.first.items));
+  }
+
+  -- how many valid slots each group has
+  pub valid_numbered : (counts : List (Option ℕ)) → HoldRows (HoldsCount c) rows all (length numbers.first.items) counts
+      → map (native_slot (λ n. pos n)) counts ≡ map (fold_in (Count false) c) (lists_in (numbered numbers))
+  valid_numbered counts have =
+      states_folded (HoldsCount c) (native_slot (λ n. pos n)) (fold_in (Count false) c) rows all (length numbers.first.items) counts
+      (λ k count is. means (rows_of rows all k) count (omega (arith, few_of rows all k as_long, numbers.few)) is) have
+      ∙ ap (map (fold_in (Count false) c)) (sym (pairs_lists rows all numbers.first.items))
+    where
+      means : (some : List ℕ) (count : Option ℕ) → HasRowNumbers (length some) → HoldsCount c some count → native_slot (λ n. pos n) count ≡ fold_in (Count false) c some
+      unfolding fold_picked
+      means [] None few is = refl
+      means (row ∷ some) None few is = absurd (omega (arith, is))
+      means [] (Some count) few is = absurd (omega (arith, is.some))
+      means (row ∷ some) (Some count) few is = ap (λ n. Num (pos n)) (is.counted few)

@@ -1,6 +1,9 @@
 -- Rows that are picked of groups, and their slots.
-use Rattle.std.proofs.Common.{◌≡◌, ◌∙◌, ap, sym, refl, ℕ, zero, suc, ◌-◌, ◌<◌, List, [], ◌∷◌, ◌++◌, All, length, map, get_or, arith}
-use Rattle.std.proofs.lemmas.List.{get_or-map, length-append, length-map, map-append}
+use Rattle.std.proofs.Common.{◌≡◌, ◌∙◌, ap, sym, refl, ℕ, zero, suc, ◌-◌, ◌<◌, ◌≤◌, Bool, true, false, inl, inr, List, [], ◌∷◌, ◌++◌, All, length, map, get_or, arith}
+use Rattle.std.specs.Prelude.{if◌then◌else◌}
+use Rattle.std.proofs.Math.Seq.{get_or-append_seam}
+use Rattle.std.proofs.lemmas.Bool.{cases_lt}
+use Rattle.std.proofs.lemmas.List.{get_or-map, length-append, length-map, map-append, nil_from_length}
 use Rattle.std.proofs.lemmas.List.Elements.{All-push, All-weaker}
 use Rattle.gb_cols.specs.Column.{pushed}
 use Rattle.gb_defs.specs.Column.{ColumnValue, fresh_column, taken}
@@ -8,7 +11,7 @@ use Rattle.gb_defs.specs.Fold.{First, Last, fold_picked, picked}
 use Rattle.gb_defs.specs.Groups.{rows_of_pair}
 use Rattle.gb_defs.specs.Slot.{Slot, Nil, slot_at}
 use Rattle.gb_agg.specs.Folds.{fold_in}
-use Rattle.gb_agg.specs.Picks.{ArePicks, IsPick}
+use Rattle.gb_agg.specs.Picks.{ArePicks, IsPick, IsPicked}
 
 -- ---- a null behind the last row
 
@@ -79,3 +82,51 @@ module _ (c : ColumnValue) (fold : List ℕ → Slot) (pairs : List (ℕ × List
         ∙ ap (λ (s : Slot). map fold (map rows_of_pair pairs) ++ s ∷ []) e
         ∙ sym (ap (map fold) (map-append rows_of_pair pairs (pair ∷ [])) ∙ map-append fold (map rows_of_pair pairs) (rows_of_pair pair ∷ []));
   }
+
+-- ---- one row more
+
+-- a fold and the row that is picked of one row
+abbrev pub PicksOne : ColumnValue → (List ℕ → Slot) → Type 0
+PicksOne c fold = (row : ℕ) → slot_at c.slots row ≡ fold (row ∷ [])
+
+module _ (c : ColumnValue) (fold : List ℕ → Slot) (rows : List ℕ) (row so_far : ℕ) (inside : row < length c.slots) (is : IsPicked c fold rows so_far) where
+  picked_row : slot_at c.slots row ≡ fold (rows ++ row ∷ []) → IsPicked c fold (rows ++ row ∷ []) row
+  picked_row e = record {
+    some = λ some. inside;
+    none = λ none. absurd (omega (arith, none, length-append rows (row ∷ [])));
+    picked = e;
+  }
+
+  -- the first one
+  pub picks_first : PicksOne c fold → length c.slots ≤ so_far → IsPicked c fold (rows ++ row ∷ []) row
+  picks_first one far = elim (cases_lt 0 (length rows)) [
+    | inl some ↦ let near = is.some some in absurd (omega (arith, far, near))
+    | inr none ↦ let empty : rows ≡ [] = nil_from_length rows (omega (arith, none)) in picked_row (one row ∙ ap (λ rs. fold (rs ++ row ∷ [])) (sym empty))
+  ]
+
+  -- a later one, which is picked or not
+  pub picks_later : (b : Bool) → so_far < length c.slots → ((rows : List ℕ) → 0 < length rows → slot_at c.slots so_far ≡ fold rows → slot_at c.slots (if b then row else so_far) ≡ fold (rows ++ row ∷ []))
+      → IsPicked c fold (rows ++ row ∷ []) (if b then row else so_far)
+  picks_later b near more = elim (cases_lt 0 (length rows)) [
+    | inl some ↦ record {
+        some = λ some. either b;
+        none = λ none. absurd (omega (arith, none, length-append rows (row ∷ [])));
+        picked = more rows some is.picked;
+      }
+    | inr none ↦ let far = is.none (omega (arith, none)) in absurd (omega (arith, far, near))
+  ]
+    where
+      either : (b : Bool) → (if b then row else so_far) < length c.slots
+      either true = inside
+      either false = near
+
+module _ (c : ColumnValue) where
+  pub first_more : (rows : List ℕ) (row : ℕ) → 0 < length rows → fold_in First c rows ≡ fold_in First c (rows ++ row ∷ [])
+  first_more [] row some = absurd (omega (arith, some))
+  first_more (r ∷ rows) row some = fold_first c (r ∷ rows) ∙ sym (fold_first c (r ∷ (rows ++ row ∷ [])))
+
+  pub last_more : (rows : List ℕ) (row : ℕ) → slot_at c.slots row ≡ fold_in Last c (rows ++ row ∷ [])
+  last_more rows row =
+      let long : length (rows ++ row ∷ []) - 1 ≡ length rows = omega (arith, length-append rows (row ∷ [])) in
+      ap (slot_at c.slots) (sym (ap (λ n. get_or (rows ++ row ∷ []) n 0) long ∙ get_or-append_seam rows row [] 0))
+      ∙ last_some c (rows ++ row ∷ []) (omega (arith, length-append rows (row ∷ [])))

@@ -23,9 +23,10 @@ goes_by_parts _ = true
 
 -- whether what is made of the rows of a group can be made from the number of each row's group alone, in one pass
 abbrev pub goes_by_numbers : GroupByMethod → Bool
-goes_by_numbers Sum = true
-goes_by_numbers (Count all) = all
-goes_by_numbers _ = false
+goes_by_numbers Groups = false
+goes_by_numbers NUnique = false
+goes_by_numbers Implode = false
+goes_by_numbers _ = true
 
 -- the word of a method
 abbrev pub method_word : GroupByMethod → List ℕ

@@ -1,10 +1,29 @@
--- What is known of the slots of each group, by the number of each row's group.
-use Rattle.std.specs.Prelude.{◌≡◌, ℕ, ◌<◌, List, get_or, length}
-use Rattle.gb_defs.specs.Fold.{picked}
+-- What is known of the rows of each group, by the number of each row's group.
+use Rattle.std.specs.Prelude.{◌≡◌, ℕ, ◌<◌, List, Option, None, Some, get_or, length}
+use Rattle.gb_defs.specs.Column.{ColumnValue}
+use Rattle.gb_defs.specs.Fold.{picked, valid}
+use Rattle.gb_defs.specs.Groups.{HasRowNumbers}
 use Rattle.gb_defs.specs.Slot.{Slot}
 use Rattle.gb_groups.specs.Numbers.{rows_of}
 
--- there is a state for each group, and it holds of the slots at the group's rows
-pub record HoldEach {S : Type 0} (holds : List Slot → S → Type 0) (slots : List Slot) (rows numbers : List ℕ) (groups : ℕ) (states : List S) : Type 0 where
+-- there is a state for each group, and it holds of the group's rows
+pub record HoldRows {S : Type 0} (holds : List ℕ → S → Type 0) (rows numbers : List ℕ) (groups : ℕ) (states : List S) : Type 0 where
   pub as_many : length states ≡ groups
-  pub each : (k : ℕ) (d : S) → k < groups → holds (picked slots (rows_of rows numbers k)) (get_or states k d)
+  pub each : (k : ℕ) (d : S) → k < groups → holds (rows_of rows numbers k) (get_or states k d)
+
+-- what is known of the slots at some rows
+abbrev pub holds_at : {S : Type 0} → (List Slot → S → Type 0) → List Slot → List ℕ → S → Type 0
+holds_at holds slots rows state = holds (picked slots rows) state
+
+-- it holds of the slots at the group's rows
+abbrev pub HoldEach : {S : Type 0} → (List Slot → S → Type 0) → List Slot → List ℕ → List ℕ → ℕ → List S → Type 0
+HoldEach holds slots rows numbers groups states = HoldRows (holds_at holds slots) rows numbers groups states
+
+-- of rows that have numbers, how many hold a value; nothing where there are none
+pub record CountsValid (c : ColumnValue) (rows : List ℕ) (count : ℕ) : Type 0 where
+  pub some : 0 < length rows
+  pub counted : HasRowNumbers (length rows) → count ≡ length (valid (picked c.slots rows))
+
+abbrev pub HoldsCount : ColumnValue → List ℕ → Option ℕ → Type 0
+HoldsCount c rows None = length rows ≡ 0
+HoldsCount c rows (Some count) = CountsValid c rows count

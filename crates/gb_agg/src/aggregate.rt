@@ -19,8 +19,8 @@ use crate::group_sums::{GroupSums, SumGroups};
 use crate::lists::{row_lists, slot_lists};
 use crate::method::GroupByMethod;
 use crate::number_fold::{RowCount, ValidCount, fold_groups};
-use crate::numbered_sums::numbered_counts;
-use crate::row_pick::{FirstRow, LastRow, RowPick, pick_groups, take_picks};
+use crate::numbered_counts::{numbered_counts, numbered_valid};
+use crate::row_pick::{FirstRow, LastRow, PickGroups, RowPick, take_picks};
 use gb_base::error::{Operation, PolarsError, PolarsResult};
 use gb_base::nullable_idx::IdxSize;
 use gb_base::small_str::PlSmallStr;
@@ -80,33 +80,46 @@ pub fn aggregate_numbered(
         Explains e (unfit_of (method_of method) (value_of column.now))) }
 {
     match method {
+        GroupByMethod::Min => column_extremes(column, false, numbers),
+        GroupByMethod::Max => column_extremes(column, true, numbers),
+        GroupByMethod::First => picked(column, &FirstRow::new(column), numbers),
+        GroupByMethod::Last => picked(column, &LastRow::new(column), numbers),
         GroupByMethod::Sum => column_sums(column, numbers),
-        GroupByMethod::Count { include_nulls: _ } => counted_numbers(column, numbers),
+        GroupByMethod::Count { include_nulls } => counted_numbers(column, include_nulls, numbers),
         _ => unreachable!(),
     }
 }
 
-// The number of rows of each group, under the column's name.
-fn counted_numbers(column: &Series, numbers: &RowNumbers) -> PolarsResult<Series>
+// The number of rows, or of valid slots, of each group, under the column's name.
+fn counted_numbers(
+    column: &Series,
+    include_nulls: bool,
+    numbers: &RowNumbers,
+) -> PolarsResult<Series>
+    requires { length numbers.now.of_rows.items ≡ length (value_of column.now).slots }
     ensures ok { IfOk result (λ s. value_of s
-        ≡ folded (Count true) (value_of column.now) (lists_in (numbered numbers.now))) }
+        ≡ folded (Count include_nulls) (value_of column.now) (lists_in (numbered numbers.now))) }
     ensures err { IfErr result IsNoMemory }
 {
     let name = column.name().try_clone()?;
-    let counts = numbered_counts(column.allocator(), name, numbers)?;
+    let counts = if include_nulls {
+        numbered_counts(column.allocator(), name, numbers)?
+    } else {
+        numbered_valid(column.allocator(), name, column, numbers)?
+    };
     Ok(counts.into_series())
 }
 
 // The slots at the rows that are picked.
-fn picked<P: RowPick>(column: &Series, pick: &P, groups: &GroupsView<'_>) -> PolarsResult<Series>
+fn picked<P: RowPick, G: PickGroups>(column: &Series, pick: &P, groups: &G) -> PolarsResult<Series>
     requires column { P.column pick.now ≡ value_of column.now }
-    requires groups { AreGroupsOf (value_of column.now) groups.now }
+    requires groups { G.suits groups.now (length (value_of column.now).slots) }
     requires short { HasRowNumbers (length (value_of column.now).slots) }
     ensures ok { let c = value_of column.now in IfOk result (λ s. value_of s
-        ≡ fold_column c.name c.dtype (P.fold pick.now) (lists_in groups.now)) }
+        ≡ fold_column c.name c.dtype (P.fold pick.now) (lists_in (G.grouping groups.now))) }
     ensures err { IfErr result IsNoMemory }
 {
-    let rows = pick_groups(column.allocator(), pick, groups)?;
+    let rows = groups.pick_rows(column.allocator(), pick)?;
     take_picks(column, &rows)
 }
 
@@ -122,15 +135,15 @@ fn unfit(column: &Series, operation: Operation) -> PolarsError
 }
 
 // The rows of the least slots, or of the greatest, None where the column's type has none.
-fn series_extremes(
+fn series_extremes<G: PickGroups>(
     alloc: Global,
     column: &Series,
     greatest: bool,
-    groups: &GroupsView<'_>,
+    groups: &G,
 ) -> PolarsResult<Option<Vec<IdxSize>>>
-    requires groups { AreGroupsOf (value_of column.now) groups.now }
+    requires groups { G.suits groups.now (length (value_of column.now).slots) }
     requires short { HasRowNumbers (length (value_of column.now).slots) }
-    ensures ok { let lists = lists_in groups.now in
+    ensures ok { let lists = lists_in (G.grouping groups.now) in
         IfOk result (λ found. MatchOption found (has_least (value_of column.now).dtype ≡ false)
         (λ rows. AreExtremes greatest (value_of column.now) lists rows.items)) }
     ensures err { IfErr result IsNoMemory }
@@ -154,15 +167,15 @@ fn series_extremes(
 }
 
 // The same of a column of a flat type.
-fn flat_extremes(
+fn flat_extremes<G: PickGroups>(
     alloc: Global,
     column: &FlatSeries,
     greatest: bool,
-    groups: &GroupsView<'_>,
+    groups: &G,
 ) -> PolarsResult<Option<Vec<IdxSize>>>
-    requires groups { AreGroupsOf (column_of column.now) groups.now }
+    requires groups { G.suits groups.now (length (column_of column.now).slots) }
     requires short { HasRowNumbers (length (column_of column.now).slots) }
-    ensures ok { let lists = lists_in groups.now in
+    ensures ok { let lists = lists_in (G.grouping groups.now) in
         IfOk result (λ found. MatchOption found (has_least (column_of column.now).dtype ≡ false)
         (λ rows. AreExtremes greatest (column_of column.now) lists rows.items)) }
     ensures err { IfErr result IsNoMemory }
@@ -171,12 +184,16 @@ fn flat_extremes(
 }
 
 // The least slots, or the greatest, unless the column's type has none.
-fn column_extremes(column: &Series, greatest: bool, groups: &GroupsView<'_>) -> PolarsResult<Series>
-    requires groups { AreGroupsOf (value_of column.now) groups.now }
+fn column_extremes<G: PickGroups>(
+    column: &Series,
+    greatest: bool,
+    groups: &G,
+) -> PolarsResult<Series>
+    requires groups { G.suits groups.now (length (value_of column.now).slots) }
     requires short { HasRowNumbers (length (value_of column.now).slots) }
     ensures fits { OnOk result (unfit_of (extreme greatest) (value_of column.now) ≡ None) }
     ensures ok { IfOk result (λ s. value_of s
-        ≡ folded (extreme greatest) (value_of column.now) (lists_in groups.now)) }
+        ≡ folded (extreme greatest) (value_of column.now) (lists_in (G.grouping groups.now))) }
     ensures err { IfErr result (λ e.
         Explains e (unfit_of (extreme greatest) (value_of column.now))) }
 {

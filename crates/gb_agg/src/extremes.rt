@@ -6,14 +6,13 @@ ghost use Rattle.gb_defs.specs.Groups.{AreMembers, HasRowNumbers, lists_in};
 ghost use Rattle.gb_defs.specs.Slot.{slot_at};
 ghost use Rattle.gb_base.specs.PlSmallStr.{IsNoMemory};
 ghost use Rattle.gb_agg.specs.Extremes.{AreExtremes};
-ghost use Rattle.gb_agg.specs.Folds.{AreGroupsOf, extreme, fold_in};
+ghost use Rattle.gb_agg.specs.Folds.{extreme, fold_in};
 
 use crate::fold_order::FoldOrder;
 use crate::group_rows::GroupRows;
-use crate::row_pick::{RowPick, pick_groups};
+use crate::row_pick::{PickGroups, RowPick};
 use gb_base::error::PolarsResult;
 use gb_base::nullable_idx::IdxSize;
-use gb_groups::view::GroupsView;
 use std::alloc::Global;
 
 // The row of the least slot, or of the greatest.
@@ -34,6 +33,14 @@ impl<'a, C: FoldOrder> RowPick for ExtremeRow<'a, C> {
         } else {
             extreme_row(self.column, self.greatest, rows)
         }
+    }
+
+    fn none(&self) -> usize {
+        self.column.row_count()
+    }
+
+    fn prefers(&self, row: usize, picked: usize) -> bool {
+        self.column.is_better(self.greatest, row, picked)
     }
 }
 
@@ -56,15 +63,15 @@ fn extreme_row<C: FoldOrder, R: GroupRows>(column: &C, greatest: bool, rows: &R)
 }
 
 /// The row of the least slot of each group, or of the greatest, None where the column's type has none.
-pub(crate) fn extreme_rows<C: FoldOrder>(
+pub(crate) fn extreme_rows<C: FoldOrder, G: PickGroups>(
     alloc: Global,
     column: &C,
     greatest: bool,
-    groups: &GroupsView<'_>,
+    groups: &G,
 ) -> PolarsResult<Option<Vec<IdxSize>>>
-    requires groups { AreGroupsOf (C.column column.now) groups.now }
+    requires groups { G.suits groups.now (length (C.column column.now).slots) }
     requires short { HasRowNumbers (length (C.column column.now).slots) }
-    ensures ok { let lists = lists_in groups.now in
+    ensures ok { let lists = lists_in (G.grouping groups.now) in
         IfOk result (λ found. MatchOption found (has_least (C.column column.now).dtype ≡ false)
         (λ rows. AreExtremes greatest (C.column column.now) lists rows.items)) }
     ensures err { IfErr result IsNoMemory }
@@ -73,5 +80,5 @@ pub(crate) fn extreme_rows<C: FoldOrder>(
         return Ok(None);
     }
     let pick = ExtremeRow { column, greatest };
-    Ok(Some(pick_groups(alloc, &pick, groups)?))
+    Ok(Some(groups.pick_rows(alloc, &pick)?))
 }

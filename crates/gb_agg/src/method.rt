@@ -49,11 +49,10 @@ impl GroupByMethod {
     pub fn goes_by_numbers(&self) -> bool
         ensures { result ≡ goes_by_numbers self.now }
     {
-        match self {
-            GroupByMethod::Sum => true,
-            GroupByMethod::Count { include_nulls } => *include_nulls,
-            _ => false,
-        }
+        !matches!(
+            self,
+            GroupByMethod::Groups | GroupByMethod::NUnique | GroupByMethod::Implode
+        )
     }
 }
 

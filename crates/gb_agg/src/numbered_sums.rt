@@ -1,4 +1,4 @@
-//! Sums, and how many rows there are, from the number of each row's group: in one pass, with no list of rows.
+//! Sums from the number of each row's group: in one pass, with no list of rows.
 
 ghost use Rattle.std.specs.Prelude.{◌≡◌, ◌<◌, length, IfErr, IfOk};
 ghost use Rattle.gb_defs.specs.ColumnType.{uint32};
@@ -47,19 +47,4 @@ impl SumGroups for RowNumbers {
         let made = UInt32Chunked::from_slice(alloc, name, &sums)?;
         Ok(made)
     }
-}
-
-/// How many rows each group has.
-pub(crate) fn numbered_counts(
-    alloc: Global,
-    name: PlSmallStr,
-    numbers: &RowNumbers,
-) -> PolarsResult<UInt32Chunked>
-    ensures ok { let lists = lists_in (numbered numbers.now) in IfOk result (λ counts.
-        counts ≡ fold_column (name_of name) uint32 rows_fold lists) }
-    ensures err { IfErr result IsNoMemory }
-{
-    let counts = row_counts(alloc, &numbers.of_rows, numbers.first.len())?;
-    let made = UInt32Chunked::from_slice(alloc, name, &counts)?;
-    Ok(made)
 }

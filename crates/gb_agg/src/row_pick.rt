@@ -1,13 +1,13 @@
 //! Folds that pick one of the rows of a group, whose slot is then taken.
 
-ghost use Rattle.std.specs.Prelude.{◌≡◌, ℕ, ◌<◌, ◌≤◌, List, length, All, IfErr, IfOk};
+ghost use Rattle.std.specs.Prelude.{◌≡◌, ℕ, ◌<◌, ◌≤◌, ◌++◌, ◌∷◌, [], List, length, All, IfErr, IfOk, if◌then◌else◌};
 ghost use Rattle.gb_defs.specs.Column.{ColumnValue, taken};
 ghost use Rattle.gb_defs.specs.Fold.{First, Last};
-ghost use Rattle.gb_defs.specs.Groups.{AreMembers, HasRowNumbers, lists_in};
+ghost use Rattle.gb_defs.specs.Groups.{AreMembers, Grouping, HasRowNumbers, lists_in};
 ghost use Rattle.gb_defs.specs.Slot.{Slot, slot_at};
 ghost use Rattle.gb_base.specs.PlSmallStr.{IsNoMemory};
 ghost use Rattle.gb_groups.specs.GroupsIndicator.{pair_of};
-ghost use Rattle.gb_agg.specs.Folds.{AreGroupsOf, fold_in};
+ghost use Rattle.gb_agg.specs.Folds.{fold_in};
 ghost use Rattle.gb_agg.specs.Picks.{ArePicks, IsPick};
 
 use crate::group_rows::{GroupRows, RowList, RowRun};
@@ -31,6 +31,38 @@ pub trait RowPick {
         requires { AreMembers (length (column self.now).slots) (R.rows rows.now) }
         ensures inside { IsPick (column self.now) result }
         ensures picked { slot_at (column self.now).slots result ≡ fold self.now (R.rows rows.now) };
+
+    /// The row behind the column's last one, which is picked of no rows.
+    fn none(&self) -> usize
+        ensures behind { result ≡ length (column self.now).slots }
+        ensures of_none { slot_at (column self.now).slots result ≡ fold self.now [] }
+        ensures of_one { (row : ℕ) → slot_at (column self.now).slots row ≡ fold self.now (row ∷ []) };
+
+    /// Whether a row behind some rows is picked in the place of the one that was picked of them.
+    fn prefers(&self, row: usize, picked: usize) -> bool
+        requires row { row < length (column self.now).slots }
+        requires picked { picked < length (column self.now).slots }
+        ensures { (rows : List ℕ) → 0 < length rows
+            → slot_at (column self.now).slots picked ≡ fold self.now rows
+            → slot_at (column self.now).slots (if result then row else picked)
+            ≡ fold self.now (rows ++ row ∷ []) };
+}
+
+/// Groups of which a row is picked of each.
+pub trait PickGroups {
+    // The groups.
+    ghost grouping: { Self → Grouping };
+
+    // Their rows are among so many.
+    ghost suits: { Self → ℕ → Type 0 };
+
+    /// The row that is picked of each group.
+    fn pick_rows<P: RowPick>(&self, alloc: Global, pick: &P) -> PolarsResult<Vec<IdxSize>>
+        requires suits { suits self.now (length (P.column pick.now).slots) }
+        requires short { HasRowNumbers (length (P.column pick.now).slots) }
+        ensures ok { IfOk result (λ rows. ArePicks (P.column pick.now) (P.fold pick.now)
+            (lists_in (grouping self.now)) rows.items) }
+        ensures err { IfErr result IsNoMemory };
 }
 
 /// The first of the rows.
@@ -58,6 +90,14 @@ impl<'a, C: SeriesTrait> RowPick for FirstRow<'a, C> {
         } else {
             rows.row_at(0)
         }
+    }
+
+    fn none(&self) -> usize {
+        self.column.len()
+    }
+
+    fn prefers(&self, _row: usize, _picked: usize) -> bool {
+        false
     }
 }
 
@@ -88,25 +128,29 @@ impl<'a, C: SeriesTrait> RowPick for LastRow<'a, C> {
             rows.row_at(count - 1)
         }
     }
+
+    fn none(&self) -> usize {
+        self.column.len()
+    }
+
+    fn prefers(&self, _row: usize, _picked: usize) -> bool {
+        true
+    }
 }
 
-/// The row that is picked of each group.
-pub fn pick_groups<P: RowPick>(
-    alloc: Global,
-    pick: &P,
-    groups: &GroupsView<'_>,
-) -> PolarsResult<Vec<IdxSize>>
-    requires groups { AreGroupsOf (P.column pick.now) groups.now }
-    requires short { HasRowNumbers (length (P.column pick.now).slots) }
-    ensures ok { IfOk result (λ rows. ArePicks (P.column pick.now) (P.fold pick.now)
-        (lists_in groups.now) rows.items) }
-    ensures err { IfErr result IsNoMemory }
-{
-    let mut rows = Vec::with_capacity(alloc, groups.len())?;
-    for place in 0..groups.len() {
-        rows.push(pick_group(pick, &groups.get(place)))?;
+impl<'a> PickGroups for GroupsView<'a> {
+    ghost grouping = { λ groups. groups };
+
+    ghost suits = { λ groups n. All (AreMembers n) (lists_in groups)
+        × HasRowNumbers (length groups.pairs) };
+
+    fn pick_rows<P: RowPick>(&self, alloc: Global, pick: &P) -> PolarsResult<Vec<IdxSize>> {
+        let mut rows = Vec::with_capacity(alloc, self.len())?;
+        for place in 0..self.len() {
+            rows.push(pick_group(pick, &self.get(place)))?;
+        }
+        Ok(rows)
     }
-    Ok(rows)
 }
 
 // The row that is picked of one group.

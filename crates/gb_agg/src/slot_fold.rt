@@ -8,6 +8,7 @@ ghost use Rattle.gb_defs.specs.Slot.{Slot, slot_at};
 ghost use Rattle.gb_agg.specs.Numbered.{HoldEach};
 
 use crate::group_rows::GroupRows;
+use crate::row_fold::repeated;
 use gb_cols::chunked::ChunkedArray;
 use gb_cols::near_chunk::NearChunk;
 use gb_groups::row_lists::Members;
@@ -117,27 +118,11 @@ pub fn fold_numbered<V: Values, F: SlotFold<V>, M: Members>(
         (M.listed rows.now) numbers.now groups states.items) }
 {
     let mut near = NearChunk::new(column);
-    let mut states = fresh_states(alloc, fold, groups)?;
+    let mut states = repeated(alloc, fold.start(), groups)?;
     for (place, number) in numbers.iter().enumerate() {
         let (chunk, at) = near.locate(rows.row_at(place) as usize);
         let state = states[*number as usize];
         states[*number as usize] = fold.with_slot(state, chunk, at);
-    }
-    Ok(states)
-}
-
-// What is known of so many groups before any slot.
-fn fresh_states<V: Values, F: SlotFold<V>>(
-    alloc: Global,
-    fold: &F,
-    groups: usize,
-) -> Result<Vec<F::State>, AllocError>
-    ensures as_many { IfOk result (λ states. length states.items ≡ groups) }
-    ensures fresh { IfOk result (λ states. All (F.holds fold.now []) states.items) }
-{
-    let mut states = Vec::with_capacity(alloc, groups)?;
-    for _ in 0..groups {
-        states.push(fold.start())?;
     }
     Ok(states)
 }

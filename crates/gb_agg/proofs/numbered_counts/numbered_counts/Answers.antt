@@ -4,7 +4,7 @@ use Rattle.gb_defs.specs.ColumnType.{uint32}
 use Rattle.gb_defs.specs.Slot.{Num}
 use Rattle.gb_base.specs.PlSmallStr.{name_of}
 use Rattle.gb_agg.proofs.NumberedLemmas.{counts_numbered}
-use Rattle.gb_agg.proofs.numbered_sums.numbered_counts.Goals as goal
+use Rattle.gb_agg.proofs.numbered_counts.numbered_counts.Goals as goal
 
 pub returns-clause-ok : goal.returns-clause-ok
 returns-clause-ok c =
