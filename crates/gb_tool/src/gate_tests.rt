@@ -60,15 +60,15 @@ struct Passed {
 
 const PASSED: [Passed; 3] = [
     Passed {
-        words: "group --by k --agg min:v --workers 2 --partitions 2 --piece 2",
+        words: "group --by k --agg n_unique:v --workers 2 --partitions 2 --piece 2",
         times: [1, 1, 0],
     },
     Passed {
-        words: "group --by k --agg min:v --workers 2 --partitions 3",
+        words: "group --by k --agg n_unique:v --workers 2 --partitions 3",
         times: [1, 1, 1],
     },
     Passed {
-        words: "group --by k --agg min:v --workers 1 --partitions 3",
+        words: "group --by k --agg n_unique:v --workers 1 --partitions 3",
         times: [0, 0, 0],
     },
 ];
@@ -83,7 +83,7 @@ fn pieces_run_side_by_side(rt: HostRuntime) -> Result<(), Fail> {
         let times = row.times;
         let status = status_through(&rt, rt.alloc(), words, 4096, &mut source, &mut sink, &gate)?;
         assert_eq!(rt; status.code(), 0);
-        assert_eq!(rt; sink.bytes(), b"k:str,v_min:i64\nb,1\na,2\n".as_slice());
+        assert_eq!(rt; sink.bytes(), b"k:str,v_n_unique:u32\nb,2\na,2\n".as_slice());
         for piece in 0..3 {
             assert_eq!(rt; gate.entered[piece].load(Ordering::SeqCst), times[piece]);
             assert_eq!(rt; gate.left[piece].load(Ordering::SeqCst), times[piece]);
