@@ -13,7 +13,7 @@ use Rattle.gb_defs.specs.Fault.{has_least}
 use Rattle.gb_defs.specs.Fold.{fold_picked, fold_type, greater, greatest, least, lesser, picked, valid}
 use Rattle.gb_defs.specs.Order.{ByText, InFolds, OrderMode, below, numbers_below, parts_below}
 use Rattle.gb_defs.specs.Slot.{Slot, Slots, Nil, Num, Bytes, Items, End, And, is_nil, slot_at, slot_eq}
-use Rattle.gb_agg.specs.Extremes.{FoldsAsCompared, compares_better, is_better, ranked_below}
+use Rattle.gb_agg.specs.Extremes.{FoldsAsCompared, compares_better, extreme_of, is_better, ranked_below}
 use Rattle.gb_agg.specs.Folds.{extreme, fold_in}
 use Rattle.gb_agg.proofs.PickLemmas.{behind}
 use Rattle.gb_logical.proofs.CategoryLemmas.{has_texts}
@@ -22,10 +22,6 @@ use Rattle.gb_logical.specs.Logical.{StandsFor}
 use Rattle.gb_numbers.specs.Native.{IsWhole}
 
 -- ---- what the folds come to
-
--- the least of slots, or the greatest
-abbrev pub extreme_of : Bool → ColumnType → List Slot → Slot
-extreme_of g t slots = if g then greatest t slots else least t slots
 
 extreme_fold : (g : Bool) (c : ColumnValue) (rows : List ℕ) → fold_in (extreme g) c rows ≡ extreme_of g c.dtype (valid (picked c.slots rows))
 unfolding fold_picked

@@ -3,6 +3,7 @@ use Rattle.std.specs.Prelude.{◌≡◌, ℕ, Bool, false, not, true, List, if�
 use Rattle.gb_defs.specs.Column.{ColumnValue}
 use Rattle.gb_defs.specs.ColumnType.{ColumnType}
 use Rattle.gb_defs.specs.Fault.{has_least}
+use Rattle.gb_defs.specs.Fold as fold
 use Rattle.gb_defs.specs.Order.{ByText, InFolds, below}
 use Rattle.gb_defs.specs.Slot.{Slot, Nil}
 use Rattle.gb_compare.specs.Placed.{placed_below}
@@ -20,6 +21,10 @@ ranked_below nulls_last t a b = below InFolds t a b
 abbrev pub is_better : Bool → ColumnType → Slot → Slot → Bool
 is_better greatest t a b = if greatest then ranked_below false t b a else ranked_below true t a b
 
+-- the least of slots, or the greatest
+abbrev pub extreme_of : Bool → ColumnType → List Slot → Slot
+extreme_of greatest t slots = if greatest then fold.greatest t slots else fold.least t slots
+
 -- the same by how columns are compared, categories by their texts
 abbrev pub compares_better : Bool → ColumnType → Slot → Slot → Bool
 compares_better greatest t a b = if greatest then placed_below false t b a else placed_below true t a b
@@ -27,8 +32,3 @@ compares_better greatest t a b = if greatest then placed_below false t b a else 
 -- in folds, slots of the type are in the order in which a column is compared
 abbrev pub FoldsAsCompared : ColumnType → Type 0
 FoldsAsCompared t = (a b : Slot) → below InFolds t a b ≡ below ByText t a b
-
--- the column has least slots, and these are the rows of those of each list, or of the greatest
-pub record AreExtremes (greatest : Bool) (c : ColumnValue) (lists : List (List ℕ)) (rows : List ℕ) : Type 0 where
-  pub ordered : has_least c.dtype ≡ true
-  pub picks : ArePicks c (fold_in (extreme greatest) c) lists rows

@@ -6,7 +6,7 @@ use Rattle.gb_defs.specs.ColumnType.{ColumnType}
 use Rattle.gb_defs.specs.Column.{ColumnValue, Content, content, fresh_column}
 use Rattle.gb_defs.specs.Fold.{Method, Min, Max, Sum, fold_of, fold_type, number_slot, sum_type}
 use Rattle.gb_defs.specs.Groups.{AreMembers, Grouping, HasRowNumbers, lists_in}
-use Rattle.gb_defs.specs.Fault.{Fault, has_sum, unfit_operation, unfit_or}
+use Rattle.gb_defs.specs.Fault.{Fault, has_least, has_sum, unfit_operation, unfit_or}
 use Rattle.gb_base.specs.PolarsError.{Explains}
 use Rattle.gb_base.specs.declared.error.PolarsError.{PolarsError}
 use Rattle.gb_series.specs.Series.{value_of}
@@ -41,6 +41,10 @@ extreme greatest = if greatest then Max else Min
 -- an aggregate of a column over lists of rows, under the column's name, in one chunk with no flag
 abbrev pub folded : Method → ColumnValue → List (List ℕ) → ColumnValue
 folded method c lists = fold_column c.name (fold_type method c.dtype) (fold_in method c) lists
+
+-- the least slots of a column over lists of rows, or the greatest, where its type has them
+abbrev pub extremes_of_column : Bool → ColumnValue → List (List ℕ) → Option ColumnValue
+extremes_of_column greatest c lists = if has_least c.dtype then Some (folded (extreme greatest) c lists) else None
 
 -- why an aggregate of a column is refused for the column's type
 abbrev pub unfit_of : Method → ColumnValue → Option Fault

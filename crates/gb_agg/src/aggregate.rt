@@ -9,30 +9,28 @@ ghost use Rattle.gb_base.specs.PlSmallStr.{IsNoMemory, name_of};
 ghost use Rattle.gb_base.specs.PolarsError.{Explains, operation_of};
 ghost use Rattle.gb_flat_series.specs.FlatSeries.{column_of};
 ghost use Rattle.gb_series.specs.Series.{value_of};
-ghost use Rattle.gb_agg.specs.Extremes.{AreExtremes};
-ghost use Rattle.gb_agg.specs.Folds.{AreGroupsOf, extreme, fold_column, fold_in, folded, sums_of_column, unfit_of};
+ghost use Rattle.gb_agg.specs.Folds.{AreGroupsOf, extreme, extremes_of_column, fold_column, fold_in, folded, sums_of_column, unfit_of};
 ghost use Rattle.gb_agg.specs.Method.{goes_by_numbers, goes_by_parts, method_of};
 ghost use Rattle.gb_paths.specs.Numbering.{numbered};
 
-use crate::extremes::extreme_rows;
-use crate::group_sums::{GroupSums, SumGroups};
+use crate::extremes::GroupExtremes;
+use crate::fold_groups::FoldGroups;
+use crate::group_sums::GroupSums;
 use crate::lists::{row_lists, slot_lists};
 use crate::method::GroupByMethod;
 use crate::number_fold::{RowCount, ValidCount, fold_groups};
 use crate::numbered_counts::{numbered_counts, numbered_valid};
-use crate::row_pick::{FirstRow, LastRow, PickGroups, RowPick, take_picks};
+use crate::row_pick::{FirstRow, LastRow, RowPick, take_picks};
 use gb_base::error::{Operation, PolarsError, PolarsResult};
-use gb_base::nullable_idx::IdxSize;
 use gb_base::small_str::PlSmallStr;
 use gb_cols::primitive::UInt32Chunked;
 use gb_cols::series_trait::SeriesTrait;
 use gb_flat_series::series::FlatSeries;
-use gb_flat_series::{map_sums, of_column};
+use gb_flat_series::{map_column, map_sums, of_column};
 use gb_groups::view::GroupsView;
 use gb_paths::row_numbers::RowNumbers;
 use gb_series::into_series::IntoSeries;
 use gb_series::series::Series;
-use std::alloc::Global;
 
 /// The aggregate over the rows of each group of a part, under the column's name, unless the type of the column
 /// has none. A row's slot is read fast where the column has one chunk.
@@ -111,7 +109,7 @@ fn counted_numbers(
 }
 
 // The slots at the rows that are picked.
-fn picked<P: RowPick, G: PickGroups>(column: &Series, pick: &P, groups: &G) -> PolarsResult<Series>
+fn picked<P: RowPick, G: FoldGroups>(column: &Series, pick: &P, groups: &G) -> PolarsResult<Series>
     requires column { P.column pick.now ≡ value_of column.now }
     requires groups { G.suits groups.now (length (value_of column.now).slots) }
     requires short { HasRowNumbers (length (value_of column.now).slots) }
@@ -134,22 +132,27 @@ fn unfit(column: &Series, operation: Operation) -> PolarsError
     }
 }
 
-// The rows of the least slots, or of the greatest, None where the column's type has none.
-fn series_extremes<G: PickGroups>(
-    alloc: Global,
+// The least slots, or the greatest, None where the column's type has none.
+fn series_extremes<G: FoldGroups>(
     column: &Series,
     greatest: bool,
     groups: &G,
-) -> PolarsResult<Option<Vec<IdxSize>>>
-    requires groups { G.suits groups.now (length (value_of column.now).slots) }
+) -> PolarsResult<Option<Series>>
+    requires suits { G.suits groups.now (length (value_of column.now).slots) }
     requires short { HasRowNumbers (length (value_of column.now).slots) }
     ensures ok { let lists = lists_in (G.grouping groups.now) in
-        IfOk result (λ found. MatchOption found (has_least (value_of column.now).dtype ≡ false)
-        (λ rows. AreExtremes greatest (value_of column.now) lists rows.items)) }
+        IfOk result (λ found. option_map value_of found
+        ≡ extremes_of_column greatest (value_of column.now) lists) }
     ensures err { IfErr result IsNoMemory }
 {
     match column {
-        Series::Flat(column) => flat_extremes(alloc, column, greatest, groups),
+        Series::Flat(column) => {
+            if !is_ordered(column) {
+                return Ok(None);
+            }
+            let found = flat_extremes(column, greatest, groups)?;
+            Ok(Some(Series::Flat(found)))
+        }
         // The calls tell the column's type, which has no least slot.
         Series::List(column) => {
             column.tell_type();
@@ -166,30 +169,36 @@ fn series_extremes<G: PickGroups>(
     }
 }
 
-// The same of a column of a flat type.
-fn flat_extremes<G: PickGroups>(
-    alloc: Global,
+// Whether a column's type has a least slot.
+fn is_ordered(column: &FlatSeries) -> bool
+    ensures { result ≡ has_least (column_of column.now).dtype }
+{
+    of_column!(column, column => column.has_least())
+}
+
+// The least slots of a column of a flat type, or the greatest.
+fn flat_extremes<G: FoldGroups>(
     column: &FlatSeries,
     greatest: bool,
     groups: &G,
-) -> PolarsResult<Option<Vec<IdxSize>>>
-    requires groups { G.suits groups.now (length (column_of column.now).slots) }
+) -> PolarsResult<FlatSeries>
+    requires ordered { has_least (column_of column.now).dtype ≡ true }
+    requires suits { G.suits groups.now (length (column_of column.now).slots) }
     requires short { HasRowNumbers (length (column_of column.now).slots) }
-    ensures ok { let lists = lists_in (G.grouping groups.now) in
-        IfOk result (λ found. MatchOption found (has_least (column_of column.now).dtype ≡ false)
-        (λ rows. AreExtremes greatest (column_of column.now) lists rows.items)) }
+    ensures ok { let lists = lists_in (G.grouping groups.now) in IfOk result (λ found.
+        column_of found ≡ folded (extreme greatest) (column_of column.now) lists) }
     ensures err { IfErr result IsNoMemory }
 {
-    of_column!(column, column => extreme_rows(alloc, column, greatest, groups))
+    Ok(map_column!(column, column => column.group_extremes(greatest, groups)?))
 }
 
 // The least slots, or the greatest, unless the column's type has none.
-fn column_extremes<G: PickGroups>(
+fn column_extremes<G: FoldGroups>(
     column: &Series,
     greatest: bool,
     groups: &G,
 ) -> PolarsResult<Series>
-    requires groups { G.suits groups.now (length (value_of column.now).slots) }
+    requires suits { G.suits groups.now (length (value_of column.now).slots) }
     requires short { HasRowNumbers (length (value_of column.now).slots) }
     ensures fits { OnOk result (unfit_of (extreme greatest) (value_of column.now) ≡ None) }
     ensures ok { IfOk result (λ s. value_of s
@@ -197,15 +206,15 @@ fn column_extremes<G: PickGroups>(
     ensures err { IfErr result (λ e.
         Explains e (unfit_of (extreme greatest) (value_of column.now))) }
 {
-    match series_extremes(column.allocator(), column, greatest, groups)? {
-        Some(rows) => take_picks(column, &rows),
+    match series_extremes(column, greatest, groups)? {
+        Some(found) => Ok(found),
         None if greatest => Err(unfit(column, Operation::Max)),
         None => Err(unfit(column, Operation::Min)),
     }
 }
 
 // The sums of a column, None where its type has none.
-fn series_sums<G: SumGroups>(column: &Series, groups: &G) -> PolarsResult<Option<Series>>
+fn series_sums<G: FoldGroups>(column: &Series, groups: &G) -> PolarsResult<Option<Series>>
     requires { G.suits groups.now (length (value_of column.now).slots) }
     ensures ok { let lists = lists_in (G.grouping groups.now) in
         IfOk result (λ sums. option_map value_of sums
@@ -235,7 +244,7 @@ fn series_sums<G: SumGroups>(column: &Series, groups: &G) -> PolarsResult<Option
 }
 
 // The sums of a column of a flat type, None where its type has none.
-fn flat_sums<G: SumGroups>(
+fn flat_sums<G: FoldGroups>(
     name: PlSmallStr,
     column: &FlatSeries,
     groups: &G,
@@ -250,7 +259,7 @@ fn flat_sums<G: SumGroups>(
 }
 
 // The sums of a column, unless its type has none.
-fn column_sums<G: SumGroups>(column: &Series, groups: &G) -> PolarsResult<Series>
+fn column_sums<G: FoldGroups>(column: &Series, groups: &G) -> PolarsResult<Series>
     requires { G.suits groups.now (length (value_of column.now).slots) }
     ensures fits { OnOk result (has_sum (value_of column.now).dtype ≡ true) }
     ensures ok { IfOk result (λ s. value_of s

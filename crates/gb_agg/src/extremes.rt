@@ -1,19 +1,195 @@
-//! The rows of the least and of the greatest slot of each group.
+//! The least and the greatest slot of each group, by what a column's values are.
 
-ghost use Rattle.std.specs.Prelude.{◌≡◌, ◌<◌, IfErr, IfOk, MatchOption, false, length};
+ghost use Rattle.std.specs.Prelude.{◌≡◌, ◌<◌, IfErr, IfOk, length, true};
+ghost use Rattle.gb_defs.specs.Column.{ColumnValue};
 ghost use Rattle.gb_defs.specs.Fault.{has_least};
 ghost use Rattle.gb_defs.specs.Groups.{AreMembers, HasRowNumbers, lists_in};
 ghost use Rattle.gb_defs.specs.Slot.{slot_at};
 ghost use Rattle.gb_base.specs.PlSmallStr.{IsNoMemory};
-ghost use Rattle.gb_agg.specs.Extremes.{AreExtremes};
-ghost use Rattle.gb_agg.specs.Folds.{extreme, fold_in};
+ghost use Rattle.gb_agg.specs.Folds.{extreme, fold_in, folded};
 
+use crate::fold_groups::FoldGroups;
 use crate::fold_order::FoldOrder;
 use crate::group_rows::GroupRows;
-use crate::row_pick::{PickGroups, RowPick};
+use crate::row_pick::{RowPick, take_picks};
 use gb_base::error::PolarsResult;
-use gb_base::nullable_idx::IdxSize;
-use std::alloc::Global;
+use gb_cols::binary::{BinaryChunked, BinaryOffsetChunked};
+use gb_cols::boolean::BooleanChunked;
+use gb_cols::chunked::{ChunkedArray, StringChunked};
+use gb_cols::null::NullChunked;
+use gb_cols::series_trait::SeriesTrait;
+use gb_logical::categorical::CategoricalChunked;
+use gb_logical::logical::{Logical, LogicalKind};
+use gb_numbers::numeric::PolarsNumericType;
+use gb_values::primitive::NumberValues;
+
+/// A column that may have a least and a greatest slot.
+pub trait GroupExtremes {
+    /// A column of such slots.
+    type Found: SeriesTrait;
+
+    // The column.
+    ghost column: { Self → ColumnValue };
+
+    /// Whether the column's type has a least slot.
+    fn has_least(&self) -> bool
+        ensures { result ≡ has_least (column self.now).dtype };
+
+    /// The least slot of each group, or the greatest.
+    fn group_extremes<G: FoldGroups>(&self, greatest: bool, groups: &G) -> PolarsResult<Self::Found>
+        requires ordered { has_least (column self.now).dtype ≡ true }
+        requires suits { G.suits groups.now (length (column self.now).slots) }
+        requires short { HasRowNumbers (length (column self.now).slots) }
+        ensures ok { let lists = lists_in (G.grouping groups.now) in IfOk result (λ found.
+            Self.Found.value found ≡ folded (extreme greatest) (column self.now) lists) }
+        ensures err { IfErr result IsNoMemory };
+}
+
+impl<T: PolarsNumericType> GroupExtremes for ChunkedArray<NumberValues<T>> {
+    type Found = ChunkedArray<NumberValues<T>>;
+
+    ghost column = { λ c. c };
+
+    fn has_least(&self) -> bool {
+        // The name tells the type.
+        let _ = self.name();
+        true
+    }
+
+    fn group_extremes<G: FoldGroups>(&self, greatest: bool, groups: &G) -> PolarsResult<Self> {
+        let name = self.name().try_clone()?;
+        groups.number_extremes(name, self, greatest)
+    }
+}
+
+impl<K: LogicalKind> GroupExtremes for Logical<K> {
+    type Found = Logical<K>;
+
+    ghost column = { λ c. c };
+
+    fn has_least(&self) -> bool {
+        // The kind tells the type.
+        let _ = self.kind();
+        true
+    }
+
+    fn group_extremes<G: FoldGroups>(&self, greatest: bool, groups: &G) -> PolarsResult<Self> {
+        let kind = self.kind();
+        let name = self.name().try_clone()?;
+        let found = groups.number_extremes(name, self.physical(), greatest)?;
+        Ok(Logical::with_kind(found, kind))
+    }
+}
+
+impl GroupExtremes for NullChunked {
+    type Found = NullChunked;
+
+    ghost column = { λ c. c };
+
+    fn has_least(&self) -> bool {
+        // The allocator tells the type.
+        let _ = self.allocator();
+        false
+    }
+
+    fn group_extremes<G: FoldGroups>(&self, _greatest: bool, _groups: &G) -> PolarsResult<Self> {
+        let _ = self.allocator();
+        unreachable!()
+    }
+}
+
+impl GroupExtremes for BooleanChunked {
+    type Found = BooleanChunked;
+
+    ghost column = { λ c. c };
+
+    fn has_least(&self) -> bool {
+        let _ = self.name();
+        true
+    }
+
+    fn group_extremes<G: FoldGroups>(&self, greatest: bool, groups: &G) -> PolarsResult<Self> {
+        picked_extremes(self, greatest, groups)
+    }
+}
+
+impl GroupExtremes for StringChunked {
+    type Found = StringChunked;
+
+    ghost column = { λ c. c };
+
+    fn has_least(&self) -> bool {
+        let _ = self.name();
+        true
+    }
+
+    fn group_extremes<G: FoldGroups>(&self, greatest: bool, groups: &G) -> PolarsResult<Self> {
+        picked_extremes(self, greatest, groups)
+    }
+}
+
+impl GroupExtremes for BinaryChunked {
+    type Found = BinaryChunked;
+
+    ghost column = { λ c. c };
+
+    fn has_least(&self) -> bool {
+        let _ = self.name();
+        true
+    }
+
+    fn group_extremes<G: FoldGroups>(&self, greatest: bool, groups: &G) -> PolarsResult<Self> {
+        picked_extremes(self, greatest, groups)
+    }
+}
+
+impl GroupExtremes for BinaryOffsetChunked {
+    type Found = BinaryOffsetChunked;
+
+    ghost column = { λ c. c };
+
+    fn has_least(&self) -> bool {
+        let _ = self.name();
+        true
+    }
+
+    fn group_extremes<G: FoldGroups>(&self, greatest: bool, groups: &G) -> PolarsResult<Self> {
+        picked_extremes(self, greatest, groups)
+    }
+}
+
+impl GroupExtremes for CategoricalChunked {
+    type Found = CategoricalChunked;
+
+    ghost column = { λ c. c };
+
+    fn has_least(&self) -> bool {
+        // The map tells that the type is one of categories.
+        let _ = self.get_rev_map();
+        true
+    }
+
+    fn group_extremes<G: FoldGroups>(&self, greatest: bool, groups: &G) -> PolarsResult<Self> {
+        picked_extremes(self, greatest, groups)
+    }
+}
+
+// The slots at the rows of the least ones, or of the greatest.
+fn picked_extremes<C: FoldOrder + SeriesTrait, G: FoldGroups>(
+    column: &C,
+    greatest: bool,
+    groups: &G,
+) -> PolarsResult<C>
+    requires column { C.column column.now ≡ C.value column.now }
+    requires suits { G.suits groups.now (length (C.value column.now).slots) }
+    requires short { HasRowNumbers (length (C.value column.now).slots) }
+    ensures ok { let lists = lists_in (G.grouping groups.now) in IfOk result (λ found.
+        C.value found ≡ folded (extreme greatest) (C.value column.now) lists) }
+    ensures err { IfErr result IsNoMemory }
+{
+    let rows = groups.pick_rows(column.allocator(), &ExtremeRow { column, greatest })?;
+    take_picks(column, &rows)
+}
 
 // The row of the least slot, or of the greatest.
 #[derive(Drop)]
@@ -60,25 +236,4 @@ fn extreme_row<C: FoldOrder, R: GroupRows>(column: &C, greatest: bool, rows: &R)
         }
     }
     best
-}
-
-/// The row of the least slot of each group, or of the greatest, None where the column's type has none.
-pub(crate) fn extreme_rows<C: FoldOrder, G: PickGroups>(
-    alloc: Global,
-    column: &C,
-    greatest: bool,
-    groups: &G,
-) -> PolarsResult<Option<Vec<IdxSize>>>
-    requires groups { G.suits groups.now (length (C.column column.now).slots) }
-    requires short { HasRowNumbers (length (C.column column.now).slots) }
-    ensures ok { let lists = lists_in (G.grouping groups.now) in
-        IfOk result (λ found. MatchOption found (has_least (C.column column.now).dtype ≡ false)
-        (λ rows. AreExtremes greatest (C.column column.now) lists rows.items)) }
-    ensures err { IfErr result IsNoMemory }
-{
-    if !column.has_least() {
-        return Ok(None);
-    }
-    let pick = ExtremeRow { column, greatest };
-    Ok(Some(groups.pick_rows(alloc, &pick)?))
 }

@@ -1,24 +1,19 @@
-//! The order in which a column's least and greatest slots are sought, by what its values are.
+//! The order in which the rows of a column's least and greatest slots are sought, where these are no numbers.
 
 ghost use Rattle.std.specs.Prelude.{◌≡◌, ◌<◌, ◌&&◌, length, not};
 ghost use Rattle.gb_defs.specs.Column.{ColumnValue};
-ghost use Rattle.gb_defs.specs.Fault.{has_least};
 ghost use Rattle.gb_defs.specs.Slot.{slot_at};
 ghost use Rattle.gb_logical.specs.Categorical.{is_enum_type, is_lexical_type};
 ghost use Rattle.gb_agg.specs.Extremes.{compares_better, is_better};
 
 use gb_cols::boolean::BooleanChunked;
 use gb_cols::chunked::ChunkedArray;
-use gb_cols::null::NullChunked;
 use gb_cols::series_trait::SeriesTrait;
 use gb_compare::inner::TotalOrdInner;
 use gb_logical::categorical::CategoricalChunked;
-use gb_logical::logical::{Logical, LogicalKind};
-use gb_numbers::numeric::PolarsNumericType;
 use gb_values::bytes::{ByteKind, ByteValues};
-use gb_values::primitive::NumberValues;
 
-/// A column that may have a least and a greatest slot.
+/// A column whose rows are compared.
 // `SeriesTrait` is no part of it: the checker refuses such a trait for a column of flags.
 pub trait FoldOrder {
     // The column.
@@ -26,10 +21,6 @@ pub trait FoldOrder {
 
     fn row_count(&self) -> usize
         ensures { result ≡ length (column self.now).slots };
-
-    /// Whether the column's type has a least slot.
-    fn has_least(&self) -> bool
-        ensures { result ≡ has_least (column self.now).dtype };
 
     /// Whether the slot of a row is less than that of another, or greater where that is asked. A null is neither.
     fn is_better(&self, greatest: bool, row: usize, other: usize) -> bool
@@ -56,35 +47,11 @@ fn compares_better<C: TotalOrdInner>(column: &C, greatest: bool, row: usize, oth
     }
 }
 
-impl<T: PolarsNumericType> FoldOrder for ChunkedArray<NumberValues<T>> {
-    ghost column = { λ c. c };
-
-    fn row_count(&self) -> usize {
-        self.len()
-    }
-
-    fn has_least(&self) -> bool {
-        // The name tells the type.
-        let _ = self.name();
-        true
-    }
-
-    fn is_better(&self, greatest: bool, row: usize, other: usize) -> bool {
-        let _ = self.name();
-        compares_better(self, greatest, row, other)
-    }
-}
-
 impl FoldOrder for BooleanChunked {
     ghost column = { λ c. c };
 
     fn row_count(&self) -> usize {
         self.len()
-    }
-
-    fn has_least(&self) -> bool {
-        let _ = self.name();
-        true
     }
 
     fn is_better(&self, greatest: bool, row: usize, other: usize) -> bool {
@@ -100,51 +67,8 @@ impl<K: ByteKind> FoldOrder for ChunkedArray<ByteValues<K>> {
         self.len()
     }
 
-    fn has_least(&self) -> bool {
-        let _ = self.name();
-        true
-    }
-
     fn is_better(&self, greatest: bool, row: usize, other: usize) -> bool {
         let _ = self.name();
-        compares_better(self, greatest, row, other)
-    }
-}
-
-impl<K: LogicalKind> FoldOrder for Logical<K> {
-    ghost column = { λ c. c };
-
-    fn row_count(&self) -> usize {
-        self.len()
-    }
-
-    fn has_least(&self) -> bool {
-        // The kind tells the type.
-        let _ = self.kind();
-        true
-    }
-
-    fn is_better(&self, greatest: bool, row: usize, other: usize) -> bool {
-        let _ = self.kind();
-        compares_better(self, greatest, row, other)
-    }
-}
-
-impl FoldOrder for NullChunked {
-    ghost column = { λ c. c };
-
-    fn row_count(&self) -> usize {
-        self.len()
-    }
-
-    fn has_least(&self) -> bool {
-        // The allocator tells the type.
-        let _ = self.allocator();
-        false
-    }
-
-    fn is_better(&self, greatest: bool, row: usize, other: usize) -> bool {
-        let _ = self.allocator();
         compares_better(self, greatest, row, other)
     }
 }
@@ -162,12 +86,6 @@ impl FoldOrder for CategoricalChunked {
 
     fn row_count(&self) -> usize {
         self.len()
-    }
-
-    fn has_least(&self) -> bool {
-        // The map tells that the type is one of categories.
-        let _ = self.get_rev_map();
-        true
     }
 
     fn is_better(&self, greatest: bool, row: usize, other: usize) -> bool {

@@ -8,10 +8,10 @@ ghost use Rattle.gb_defs.specs.Groups.{AreMembers, HasRowNumbers, lists_in};
 ghost use Rattle.gb_base.specs.PlSmallStr.{IsNoMemory, name_of};
 ghost use Rattle.gb_values.specs.Array.{native_slot};
 ghost use Rattle.gb_groups.specs.GroupsIndicator.{pair_of};
-ghost use Rattle.gb_agg.specs.Folds.{fold_column, fold_in, rows_fold};
+ghost use Rattle.gb_agg.specs.Folds.{extreme, fold_column, fold_in, rows_fold};
 
 use crate::group_rows::{GroupRows, RowList, RowRun};
-use crate::slot_fold::{SumFold, fold_rows};
+use crate::slot_fold::{ExtremeFold, SumFold, fold_rows};
 use gb_base::error::PolarsResult;
 use gb_base::small_str::PlSmallStr;
 use gb_cols::boolean::BooleanChunked;
@@ -98,6 +98,37 @@ impl<'a, T: PolarsNumericType> NumberFold for SumOf<'a, T> {
     fn over<R: GroupRows>(&self, rows: &R) -> Option<T::Native> {
         let sum = fold_rows(self.column, &SumFold, rows);
         Some(sum)
+    }
+}
+
+/// The least of a column of numbers, or the greatest, null where all are null.
+#[derive(Drop)]
+pub struct ExtremeOf<'a, T: PolarsNumericType> {
+    column: &'a ChunkedArray<NumberValues<T>>,
+    greatest: bool,
+}
+
+impl<'a, T: PolarsNumericType> ExtremeOf<'a, T> {
+    pub fn new(column: &'a ChunkedArray<NumberValues<T>>, greatest: bool) -> ExtremeOf<'a, T>
+        ensures column { result.column.now ≡ column.now }
+        ensures greatest { result.greatest ≡ greatest }
+    {
+        ExtremeOf { column, greatest }
+    }
+}
+
+impl<'a, T: PolarsNumericType> NumberFold for ExtremeOf<'a, T> {
+    type Out = T;
+
+    ghost fold = { λ f. fold_of (extreme f.greatest) (Flat T.Native.flat) f.column.now.slots };
+
+    ghost height = { λ f. length f.column.now.slots };
+
+    fn over<R: GroupRows>(&self, rows: &R) -> Option<T::Native> {
+        let fold = ExtremeFold {
+            greatest: self.greatest,
+        };
+        fold_rows(self.column, &fold, rows)
     }
 }
 

@@ -3,7 +3,7 @@
 ghost use Rattle.std.specs.Prelude.{◌≡◌, ℕ, ◌<◌, ◌≤◌, ◌++◌, ◌∷◌, [], List, length, All, IfErr, IfOk, if◌then◌else◌};
 ghost use Rattle.gb_defs.specs.Column.{ColumnValue, taken};
 ghost use Rattle.gb_defs.specs.Fold.{First, Last};
-ghost use Rattle.gb_defs.specs.Groups.{AreMembers, Grouping, HasRowNumbers, lists_in};
+ghost use Rattle.gb_defs.specs.Groups.{AreMembers, HasRowNumbers, lists_in};
 ghost use Rattle.gb_defs.specs.Slot.{Slot, slot_at};
 ghost use Rattle.gb_base.specs.PlSmallStr.{IsNoMemory};
 ghost use Rattle.gb_groups.specs.GroupsIndicator.{pair_of};
@@ -46,23 +46,6 @@ pub trait RowPick {
             → slot_at (column self.now).slots picked ≡ fold self.now rows
             → slot_at (column self.now).slots (if result then row else picked)
             ≡ fold self.now (rows ++ row ∷ []) };
-}
-
-/// Groups of which a row is picked of each.
-pub trait PickGroups {
-    // The groups.
-    ghost grouping: { Self → Grouping };
-
-    // Their rows are among so many.
-    ghost suits: { Self → ℕ → Type 0 };
-
-    /// The row that is picked of each group.
-    fn pick_rows<P: RowPick>(&self, alloc: Global, pick: &P) -> PolarsResult<Vec<IdxSize>>
-        requires suits { suits self.now (length (P.column pick.now).slots) }
-        requires short { HasRowNumbers (length (P.column pick.now).slots) }
-        ensures ok { IfOk result (λ rows. ArePicks (P.column pick.now) (P.fold pick.now)
-            (lists_in (grouping self.now)) rows.items) }
-        ensures err { IfErr result IsNoMemory };
 }
 
 /// The first of the rows.
@@ -138,19 +121,23 @@ impl<'a, C: SeriesTrait> RowPick for LastRow<'a, C> {
     }
 }
 
-impl<'a> PickGroups for GroupsView<'a> {
-    ghost grouping = { λ groups. groups };
-
-    ghost suits = { λ groups n. All (AreMembers n) (lists_in groups)
-        × HasRowNumbers (length groups.pairs) };
-
-    fn pick_rows<P: RowPick>(&self, alloc: Global, pick: &P) -> PolarsResult<Vec<IdxSize>> {
-        let mut rows = Vec::with_capacity(alloc, self.len())?;
-        for place in 0..self.len() {
-            rows.push(pick_group(pick, &self.get(place)))?;
-        }
-        Ok(rows)
+/// The row that is picked of each group.
+pub fn pick_groups<P: RowPick>(
+    alloc: Global,
+    pick: &P,
+    groups: &GroupsView<'_>,
+) -> PolarsResult<Vec<IdxSize>>
+    requires rows { All (AreMembers (length (P.column pick.now).slots)) (lists_in groups.now) }
+    requires short { HasRowNumbers (length (P.column pick.now).slots) }
+    ensures ok { IfOk result (λ rows. ArePicks (P.column pick.now) (P.fold pick.now)
+        (lists_in groups.now) rows.items) }
+    ensures err { IfErr result IsNoMemory }
+{
+    let mut rows = Vec::with_capacity(alloc, groups.len())?;
+    for place in 0..groups.len() {
+        rows.push(pick_group(pick, &groups.get(place)))?;
     }
+    Ok(rows)
 }
 
 // The row that is picked of one group.

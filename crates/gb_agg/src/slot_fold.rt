@@ -1,10 +1,12 @@
 //! Folds that take the slots of a column one after another: those of a list of rows, or all of a column at once,
 //! each into what is known of its row's group.
 
-ghost use Rattle.std.specs.Prelude.{◌≡◌, ◌<◌, ◌++◌, ◌∷◌, [], All, IfOk, List, length, pos};
+ghost use Rattle.std.specs.Prelude.{◌≡◌, ◌<◌, ◌++◌, ◌∷◌, [], All, IfOk, List, length, pos, if◌then◌else◌};
 ghost use Rattle.gb_defs.specs.ColumnType.{Boolean, Flat};
 ghost use Rattle.gb_defs.specs.Fold.{picked, total, valid, wrap};
-ghost use Rattle.gb_defs.specs.Slot.{Slot, slot_at};
+ghost use Rattle.gb_defs.specs.Slot.{Num, Slot, slot_at};
+ghost use Rattle.gb_values.specs.Array.{native_slot};
+ghost use Rattle.gb_agg.specs.Extremes.{extreme_of, is_better};
 ghost use Rattle.gb_agg.specs.Numbered.{HoldEach};
 
 use crate::group_rows::GroupRows;
@@ -81,6 +83,70 @@ impl SlotFold<FlagValues> for SumFold {
             Some(flag) => sum.add_wrapped(u32::from(flag)),
             None => sum,
         }
+    }
+}
+
+/// The least of numbers, or the greatest, none where all are null.
+#[derive(Drop)]
+pub struct ExtremeFold {
+    pub greatest: bool,
+}
+
+impl<T: PolarsNumericType> SlotFold<NumberValues<T>> for ExtremeFold {
+    type State = Option<T::Native>;
+
+    ghost holds = { λ fold slots best. native_slot T.Native.number best
+        ≡ extreme_of fold.greatest (Flat T.Native.flat) (valid slots) };
+
+    #[inline]
+    fn start(&self) -> Option<T::Native> {
+        None
+    }
+
+    #[inline]
+    fn with_slot(
+        &self,
+        best: Option<T::Native>,
+        chunk: &NullableArray<NumberValues<T>>,
+        at: usize,
+    ) -> Option<T::Native> {
+        better_of(self.greatest, best, chunk.get(at))
+    }
+}
+
+// A number where it is better than the best so far, or else this one.
+#[inline]
+fn better_of<N: Native>(greatest: bool, best: Option<N>, other: Option<N>) -> Option<N>
+    ensures { let t = Flat N.flat in let other = native_slot N.number other in
+        let best = native_slot N.number best in
+        native_slot N.number result ≡ (if is_better greatest t other best then other else best) }
+{
+    match other {
+        Some(number) => match best {
+            Some(so_far) => {
+                if is_number_better(greatest, number, so_far) {
+                    other
+                } else {
+                    best
+                }
+            }
+            None => other,
+        },
+        None => best,
+    }
+}
+
+// Whether a number is less than another, or greater where that is asked.
+#[inline]
+fn is_number_better<N: Native>(greatest: bool, number: N, other: N) -> bool
+    ensures { result ≡ is_better greatest (Flat N.flat) (Num (N.number number))
+        (Num (N.number other)) }
+{
+    let order = number.cmp(&other);
+    if greatest {
+        order.is_gt()
+    } else {
+        order.is_lt()
     }
 }
 

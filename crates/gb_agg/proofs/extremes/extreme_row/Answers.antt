@@ -3,7 +3,8 @@ use Rattle.std.proofs.lemmas.List.{take_all}
 use Rattle.gb_defs.proofs.FoldLemmas.{picked_more}
 use Rattle.gb_defs.specs.Fold.{picked, valid}
 use Rattle.gb_defs.specs.Slot.{Slot, slot_at}
-use Rattle.gb_agg.proofs.ExtremeLemmas.{extreme_found, extreme_of, slot_more}
+use Rattle.gb_agg.specs.Extremes.{extreme_of}
+use Rattle.gb_agg.proofs.ExtremeLemmas.{extreme_found, slot_more}
 use Rattle.gb_agg.proofs.extremes.extreme_row.Goals as goal
 use Rattle.gb_agg.proofs.extremes.extreme_row.Goals.{then-is_better, else-is_better}
 

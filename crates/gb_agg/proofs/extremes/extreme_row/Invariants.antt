@@ -1,7 +1,7 @@
 use Rattle.std.proofs.Common.{◌≡◌, ◌<◌, length, take}
 use Rattle.gb_defs.specs.Fold.{picked, valid}
 use Rattle.gb_defs.specs.Slot.{slot_at}
-use Rattle.gb_agg.proofs.ExtremeLemmas.{extreme_of}
+use Rattle.gb_agg.specs.Extremes.{extreme_of}
 use Rattle.gb_agg.proofs.extremes.extreme_row.Given as goal
 
 abbrev pub invariant-loop-place : goal.invariant-loop-place

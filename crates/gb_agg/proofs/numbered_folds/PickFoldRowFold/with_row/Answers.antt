@@ -1,6 +1,6 @@
 use Rattle.std.proofs.Common.{◌≤◌, ◌<◌, arith, length, sym}
 use Rattle.gb_agg.proofs.PickLemmas.{picks_first, picks_later}
-use Rattle.gb_agg.proofs.numbered_picks.PickFoldRowFold.with_row.Goals as goal
+use Rattle.gb_agg.proofs.numbered_folds.PickFoldRowFold.with_row.Goals as goal
 
 pub returns-then-picked-ge : goal.returns-then-picked-ge
 returns-then-picked-ge g c = λ rows is.

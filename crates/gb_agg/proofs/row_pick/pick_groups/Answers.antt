@@ -5,21 +5,21 @@ use Rattle.gb_groups.specs.GroupsIndicator.{pair_of}
 use Rattle.gb_agg.specs.Picks.{ArePicks}
 use Rattle.gb_agg.proofs.ListLemmas.{list_at}
 use Rattle.gb_agg.proofs.PickLemmas.{picks_more}
-use Rattle.gb_agg.proofs.row_pick.GroupsViewPickGroups.pick_rows.Goals as goal
+use Rattle.gb_agg.proofs.row_pick.pick_groups.Goals as goal
 
 pub pick_group-requires-clause-members : goal.pick_group-requires-clause-members
 pick_group-requires-clause-members g c =
-    let pairs = c.args.self.now.pairs in
+    let pairs = c.args.groups.now.pairs in
     let place = c.loop-place.place in
     let pair = pair_of c.get.result in
     let lt : place < length pairs = omega (arith, c.loop-place-test.true, c.len-place-end.ensures) in
-    list_at pairs place pair lt (c.get.ensures ∙ get_or_default pairs place (0, []) pair lt) (AreMembers (length (g.P.RowPick.column c.args.pick.now).slots)) c.requires.groups.rows
+    list_at pairs place pair lt (c.get.ensures ∙ get_or_default pairs place (0, []) pair lt) (AreMembers (length (g.P.RowPick.column c.args.pick.now).slots)) c.requires.rows
 
 pub loop-place-preserved : goal.loop-place-preserved
 loop-place-preserved g c =
     let column = g.P.RowPick.column c.args.pick.now in
     let fold = g.P.RowPick.fold c.args.pick.now in
-    let pairs = c.args.self.now.pairs in
+    let pairs = c.args.groups.now.pairs in
     let place = c.loop-place.place in
     let pair = get_or pairs place (0, []) in
     let rows = c.loop-place.rows.items in

@@ -1,4 +1,4 @@
-use Rattle.gb_agg.proofs.group_sums.GroupsViewSumGroups.number_sums.Goals as goal
+use Rattle.gb_agg.proofs.fold_groups.GroupsViewFoldGroups.number_sums.Goals as goal
 
 pub fold_groups-requires-clause-rows : goal.fold_groups-requires-clause-rows
 fold_groups-requires-clause-rows g c = rw c.new.ensures c.requires.0

@@ -1,5 +1,5 @@
 use Rattle.std.proofs.Common.{◌∙◌, arith, refl}
-use Rattle.gb_agg.proofs.numbered_picks.PickFoldRowFold.start.Goals as goal
+use Rattle.gb_agg.proofs.numbered_folds.PickFoldRowFold.start.Goals as goal
 
 pub returns : goal.returns
 returns g c =

@@ -8,7 +8,7 @@ use Rattle.gb_defs.specs.Slot.{Num}
 use Rattle.gb_base.specs.PlSmallStr.{name_of}
 use Rattle.gb_paths.specs.Numbering.{numbered}
 use Rattle.gb_agg.proofs.NumberedLemmas.{rows_inside, sums_numbered}
-use Rattle.gb_agg.proofs.numbered_sums.RowNumbersSumGroups.number_sums.Goals as goal
+use Rattle.gb_agg.proofs.numbered_folds.RowNumbersFoldGroups.number_sums.Goals as goal
 
 pub fold_numbered-requires-clause-inside : goal.fold_numbered-requires-clause-inside
 fold_numbered-requires-clause-inside g c =
