@@ -1,5 +1,5 @@
 -- The least and the greatest slot of some rows: one row more, and types in whose order slots are compared.
-use Rattle.std.proofs.Common.{◌≡◌, ◌∙◌, ◌⊎◌, ap, sym, refl, subst, ℕ, suc, ℤ, Bool, true, false, not, ◌&&◌, ◌||◌, inl, inr, List, [], ◌∷◌, ◌++◌, Some, length, arith}
+use Rattle.std.proofs.Common.{◌≡◌, ◌∙◌, ◌⊎◌, ap, ap₂, sym, refl, subst, ℕ, suc, ℤ, Bool, true, false, not, ◌&&◌, ◌||◌, inl, inr, List, [], ◌∷◌, ◌++◌, Some, length, map, arith}
 use Rattle.std.specs.Prelude.{if◌then◌else◌}
 use Rattle.std.specs.Int.{Width, w32}
 use Rattle.std.specs.List.{AllByRecursion, fold}
@@ -7,26 +7,29 @@ use Rattle.std.proofs.lemmas.List.{map-append}
 use Rattle.std.proofs.lemmas.List.Sums.{fold-append}
 use Rattle.gb_compare.specs.Placed.{placed_below, text_type}
 use Rattle.gb_defs.proofs.FoldLemmas.{valid_push_null, valid_push_value}
-use Rattle.gb_defs.specs.Column.{ColumnValue, categories_of}
+use Rattle.gb_defs.specs.Column.{ColumnValue, categories_of, fresh_column}
 use Rattle.gb_defs.specs.ColumnType.{CategoricalOrdering, FitsBytes, Physical, Lexical, Categorical, ColumnType, Enum, Flat, FlatType, Null, Boolean, Unsigned, Signed, Decimal, Date, Time, Datetime, Duration, String, Binary, BinaryOffset, uint32}
 use Rattle.gb_defs.specs.Fault.{has_least}
-use Rattle.gb_defs.specs.Fold.{fold_picked, fold_type, greater, greatest, least, lesser, picked, valid}
+use Rattle.gb_defs.specs.Fold.{fold_of, fold_picked, fold_type, greater, greatest, least, lesser, picked, valid}
 use Rattle.gb_defs.specs.Order.{ByText, InFolds, OrderMode, below, numbers_below, parts_below}
 use Rattle.gb_defs.specs.Slot.{Slot, Slots, Nil, Num, Bytes, Items, End, And, is_nil, slot_at, slot_eq}
 use Rattle.gb_agg.specs.Extremes.{FoldsAsCompared, compares_better, extreme_of, is_better, ranked_below}
-use Rattle.gb_agg.specs.Folds.{extreme, fold_in}
+use Rattle.gb_agg.specs.Folds.{extreme, fold_column, fold_in, folded}
 use Rattle.gb_agg.proofs.PickLemmas.{behind}
 use Rattle.gb_logical.proofs.CategoryLemmas.{has_texts}
 use Rattle.gb_logical.specs.Categorical.{is_enum_type, is_lexical_type}
-use Rattle.gb_logical.specs.Logical.{StandsFor}
+use Rattle.gb_logical.specs.Logical.{StandsFor, logical_column}
 use Rattle.gb_numbers.specs.Native.{IsWhole}
 
 -- ---- what the folds come to
 
-extreme_fold : (g : Bool) (c : ColumnValue) (rows : List ℕ) → fold_in (extreme g) c rows ≡ extreme_of g c.dtype (valid (picked c.slots rows))
+pub fold_extreme : (g : Bool) (t : ColumnType) (slots : List Slot) (rows : List ℕ) → fold_of (extreme g) t slots rows ≡ extreme_of g t (valid (picked slots rows))
 unfolding fold_picked
-extreme_fold false c rows = refl
-extreme_fold true c rows = refl
+fold_extreme false t slots rows = refl
+fold_extreme true t slots rows = refl
+
+extreme_fold : (g : Bool) (c : ColumnValue) (rows : List ℕ) → fold_in (extreme g) c rows ≡ extreme_of g c.dtype (valid (picked c.slots rows))
+extreme_fold g c rows = fold_extreme g c.dtype c.slots rows
 
 -- ---- slots that are no nulls
 
@@ -251,6 +254,39 @@ bytes_folds f t fits typed = flat_folds f (by f fits) t typed
 
 pub text_folds : (texts : List (List ℕ)) → FoldsAsCompared (text_type texts)
 text_folds texts = flat_folds (Categorical (Some texts) Lexical) (λ a b. refl) (text_type texts) refl
+
+-- ---- numbers that stand for others
+
+module _ (t u : ColumnType) (alike : (a b : Slot) → below InFolds t a b ≡ below InFolds u a b) where
+  lesser_alike : lesser t ≡ lesser u
+  lesser_alike i a b = ap (λ (x : Bool). if x then b else a) (alike b a) i
+
+  greater_alike : greater t ≡ greater u
+  greater_alike i a b = ap (λ (x : Bool). if x then b else a) (alike a b) i
+
+  extreme_alike : (g : Bool) (slots : List Slot) → extreme_of g t slots ≡ extreme_of g u slots
+  extreme_alike false [] = refl
+  extreme_alike true [] = refl
+  extreme_alike false (s ∷ ss) = ap (λ f. fold f s ss) lesser_alike
+  extreme_alike true (s ∷ ss) = ap (λ f. fold f s ss) greater_alike
+
+  pub extremes_alike : (g : Bool) (slots : List Slot) (lists : List (List ℕ)) → map (fold_of (extreme g) t slots) lists ≡ map (fold_of (extreme g) u slots) lists
+  extremes_alike g slots [] = refl
+  extremes_alike g slots (rows ∷ lists) =
+      ap₂ (λ (x : Slot) xs. x ∷ xs) (fold_extreme g t slots rows ∙ extreme_alike g (valid (picked slots rows)) ∙ sym (fold_extreme g u slots rows)) (extremes_alike g slots lists)
+
+-- the extremes of a column of such numbers are those of what they stand for
+pub logical_extremes : (stored t : FlatType) → StandsFor stored t → (g : Bool) (c physical found : ColumnValue) (lists : List (List ℕ)) → c.dtype ≡ Flat t → c.slots ≡ physical.slots → physical.dtype ≡ Flat stored →
+    found ≡ fold_column c.name (Flat stored) (fold_in (extreme g) physical) lists → logical_column t found ≡ folded (extreme g) c lists
+logical_extremes stored t stands g c physical found lists typed same stored_type e =
+    let folds : ColumnType → List Slot → List Slot = λ d ss. map (fold_of (extreme g) d ss) lists in
+    let plain : found ≡ fresh_column c.name (Flat stored) (folds (Flat stored) physical.slots) =
+    e ∙ ap (λ d. fresh_column c.name (Flat stored) (folds d physical.slots)) stored_type in
+    let slots : folds (Flat stored) physical.slots ≡ folds c.dtype c.slots =
+    extremes_alike (Flat stored) (Flat t) (below_alike stored t InFolds InFolds (λ a b. sym (stands.ordered InFolds a b))) g physical.slots lists
+    ∙ ap (folds (Flat t)) (sym same) ∙ ap (λ d. folds d c.slots) (sym typed) in
+    ap (logical_column t) plain ∙ ap (fresh_column c.name (Flat t)) slots
+    ∙ ap (λ d. fresh_column c.name d (folds c.dtype c.slots)) (sym (extreme_type g c.dtype ∙ typed))
 
 -- ---- types that have a least slot
 

@@ -5,9 +5,9 @@ use Rattle.std.specs.Prelude.{if◌then◌else◌}
 use Rattle.std.proofs.lemmas.List.{map-append}
 use Rattle.gb_defs.specs.Slot.{Slot, Num}
 use Rattle.gb_defs.specs.ColumnType.{ColumnType, FlatType, Flat}
-use Rattle.gb_agg.specs.Folds.{fold_column, fold_in, rows_fold, sums_of_column}
+use Rattle.gb_agg.specs.Folds.{extreme, extremes_of_column, fold_column, fold_in, folded, rows_fold, sums_of_column}
 use Rattle.gb_defs.specs.Column.{ColumnValue, categories_of, fresh_column}
-use Rattle.gb_defs.specs.Fault.{has_sum, sums_flat}
+use Rattle.gb_defs.specs.Fault.{has_least, has_sum, sums_flat}
 use Rattle.gb_defs.specs.Fold.{Sum, Count, fold_of, fold_picked, picked, sum_type, wrap_flat, total, valid}
 use Rattle.gb_logical.proofs.CategoryLemmas.{has_texts}
 use Rattle.gb_cols.specs.Column.{pushed}
@@ -70,3 +70,18 @@ no_category_sums t texts e = elim (has_texts t texts e).1 [
   | inl same ↦ rw same refl
   | inr same ↦ rw same refl
 ]
+
+-- ---- least and greatest slots by the type of the column
+
+module _ (g : Bool) (c : ColumnValue) (lists : List (List ℕ)) where
+  pub extremes_told : (found : ColumnValue) → Some found ≡ extremes_of_column g c lists → (has_least c.dtype ≡ true) × (found ≡ folded (extreme g) c lists)
+  extremes_told found e = elim (cases_Bool (has_least c.dtype)) [
+    | inl has ↦ let same = rw has at e in (has, cc)
+    | inr none ↦ let bad = rw none at e in cc
+  ]
+
+  pub no_extremes_told : ◌≡◌ {A = Option ColumnValue} None (extremes_of_column g c lists) → has_least c.dtype ≡ false
+  no_extremes_told e = elim (cases_Bool (has_least c.dtype)) [
+    | inl has ↦ let bad = rw has at e in cc
+    | inr none ↦ none
+  ]

@@ -1,5 +1,5 @@
 -- What is known of the rows of each group, one row more.
-use Rattle.std.proofs.Common.{◌≡◌, ◌∙◌, ap, sym, refl, subst, ap₂, ℕ, suc, ◌+◌, ◌<◌, ◌≤◌, ◌==◌, cond, map, pos, ℤ, inl, inr, eqb, false, List, [], ◌∷◌, ◌++◌, All, Option, None, Some, length, get_or, replicate, set, take, arith}
+use Rattle.std.proofs.Common.{◌≡◌, ◌∙◌, ap, sym, refl, subst, ap₂, ℕ, suc, ◌+◌, ◌<◌, ◌≤◌, ◌==◌, cond, map, pos, ℤ, inl, inr, eqb, Bool, false, List, [], ◌∷◌, ◌++◌, All, Option, None, Some, length, get_or, replicate, set, take, arith}
 use Rattle.std.specs.List.{range_with_len}
 use Rattle.std.proofs.lemmas.List.Elements.{All-from_recursion}
 use Rattle.std.proofs.lemmas.List.FromFn.{length-range_with_len}
@@ -19,9 +19,11 @@ use Rattle.gb_paths.proofs.NumberingLemmas.{pairs_lists}
 use Rattle.gb_groups.proofs.NumberLemmas.{length-rows_of, map_range_same, rows_push}
 use Rattle.gb_groups.specs.Numbers.{count_of, counts_by, lists_by, rows_of}
 use Rattle.gb_values.specs.Array.{native_slot}
-use Rattle.gb_agg.specs.Folds.{fold_in, rows_fold}
+use Rattle.gb_agg.specs.Extremes.{extreme_of}
+use Rattle.gb_agg.specs.Folds.{extreme, fold_in, rows_fold}
 use Rattle.gb_agg.specs.Numbered.{HoldEach, HoldRows, HoldsCount, holds_at}
 use Rattle.gb_agg.specs.Picks.{ArePicks, IsPicked}
+use Rattle.gb_agg.proofs.ExtremeLemmas.{fold_extreme}
 
 module _ {S : Type 0} (holds : List ℕ → S → Type 0) (rows numbers : List ℕ) (groups : ℕ) where
   -- before any row
@@ -107,17 +109,32 @@ sums_folded number t slots rows numbers groups sums have =
 pub rows_inside : (count n : ℕ) → count ≡ n → All (λ row. row < n) (rows_below count)
 rows_inside count n same = rw (← same) (All-from_recursion (λ row. row < count) (rows_below count) (rows_below_all count))
 
--- sums by the numbers of all rows are those over the groups
+-- folds by the numbers of all rows are those over the groups
+lists_numbered : (fold : List ℕ → Slot) (numbers : RowNumbers) (count groups : ℕ) (given : List ℕ) → count ≡ length numbers.of_rows.items → given ≡ numbers.of_rows.items → groups ≡ length numbers.first.items →
+    map fold (lists_by (rows_below count) given groups) ≡ map fold (lists_in (numbered numbers))
+lists_numbered fold numbers count groups given many same known =
+    ap (λ n. map fold (lists_by (rows_below n) given groups)) many
+    ∙ ap (λ ns. map fold (lists_by (rows_below (length numbers.of_rows.items)) ns groups)) same
+    ∙ ap (λ n. map fold (lists_by (rows_below (length numbers.of_rows.items)) numbers.of_rows.items n)) known
+    ∙ ap (map fold) (sym (pairs_lists (rows_below (length numbers.of_rows.items)) numbers.of_rows.items numbers.first.items))
+
+-- sums are
 pub sums_numbered : {S : Type 0} (number : S → ℤ) (t : ColumnType) (slots : List Slot) (numbers : RowNumbers) (count groups : ℕ) (given : List ℕ) (sums : List S) →
     count ≡ length numbers.of_rows.items → given ≡ numbers.of_rows.items → groups ≡ length numbers.first.items →
     HoldEach (λ some sum. number sum ≡ wrap t (total (valid some))) slots (rows_below count) given groups sums →
     map (λ sum. Num (number sum)) sums ≡ map (fold_of Sum t slots) (lists_in (numbered numbers))
 sums_numbered number t slots numbers count groups given sums many same known have =
-    sums_folded number t slots (rows_below count) given groups sums have
-    ∙ ap (λ n. map (fold_of Sum t slots) (lists_by (rows_below n) given groups)) many
-    ∙ ap (λ ns. map (fold_of Sum t slots) (lists_by (rows_below (length numbers.of_rows.items)) ns groups)) same
-    ∙ ap (λ n. map (fold_of Sum t slots) (lists_by (rows_below (length numbers.of_rows.items)) numbers.of_rows.items n)) known
-    ∙ ap (map (fold_of Sum t slots)) (sym (pairs_lists (rows_below (length numbers.of_rows.items)) numbers.of_rows.items numbers.first.items))
+    sums_folded number t slots (rows_below count) given groups sums have ∙ lists_numbered (fold_of Sum t slots) numbers count groups given many same known
+
+-- and so are the least slots, or the greatest
+pub extremes_numbered : {S : Type 0} (slot_of : S → Slot) (g : Bool) (t : ColumnType) (slots : List Slot) (numbers : RowNumbers) (count groups : ℕ) (given : List ℕ) (best : List S) →
+    count ≡ length numbers.of_rows.items → given ≡ numbers.of_rows.items → groups ≡ length numbers.first.items →
+    HoldEach (λ some b. slot_of b ≡ extreme_of g t (valid some)) slots (rows_below count) given groups best →
+    map slot_of best ≡ map (fold_of (extreme g) t slots) (lists_in (numbered numbers))
+extremes_numbered slot_of g t slots numbers count groups given best many same known have =
+    states_folded (holds_at (λ some b. slot_of b ≡ extreme_of g t (valid some)) slots) slot_of (fold_of (extreme g) t slots) (rows_below count) given groups best
+    (λ k b is. is ∙ sym (fold_extreme g t slots (rows_of (rows_below count) given k))) have
+    ∙ lists_numbered (fold_of (extreme g) t slots) numbers count groups given many same known
 
 -- and so are counts
 pub counts_numbered : (numbers : RowNumbers) (groups : ℕ) (given : List ℕ) → given ≡ numbers.of_rows.items → groups ≡ length numbers.first.items →
