@@ -109,10 +109,10 @@ module _ (c : ColumnValue) (fold : List ℕ → Slot) (rows : List ℕ) (row so_
       → IsPicked c fold (rows ++ row ∷ []) (if b then row else so_far)
   picks_later b near more = elim (cases_lt 0 (length rows)) [
     | inl some ↦ record {
-        some = λ some. either b;
-        none = λ none. absurd (omega (arith, none, length-append rows (row ∷ [])));
-        picked = more rows some is.picked;
-      }
+      some = λ some. either b;
+      none = λ none. absurd (omega (arith, none, length-append rows (row ∷ [])));
+      picked = more rows some is.picked;
+    }
     | inr none ↦ let far = is.none (omega (arith, none)) in absurd (omega (arith, far, near))
   ]
     where

@@ -1,6 +1,5 @@
 -- What is known of the rows of each group, by the number of each row's group.
 use Rattle.std.specs.Prelude.{◌≡◌, ℕ, ◌<◌, List, Option, None, Some, get_or, length}
-use Rattle.gb_defs.specs.Column.{ColumnValue}
 use Rattle.gb_defs.specs.Fold.{picked, valid}
 use Rattle.gb_defs.specs.Groups.{HasRowNumbers}
 use Rattle.gb_defs.specs.Slot.{Slot}
@@ -19,11 +18,11 @@ holds_at holds slots rows state = holds (picked slots rows) state
 abbrev pub HoldEach : {S : Type 0} → (List Slot → S → Type 0) → List Slot → List ℕ → List ℕ → ℕ → List S → Type 0
 HoldEach holds slots rows numbers groups states = HoldRows (holds_at holds slots) rows numbers groups states
 
--- of rows that have numbers, how many hold a value; nothing where there are none
-pub record CountsValid (c : ColumnValue) (rows : List ℕ) (count : ℕ) : Type 0 where
-  pub some : 0 < length rows
-  pub counted : HasRowNumbers (length rows) → count ≡ length (valid (picked c.slots rows))
+-- how many of some slots are valid, where so many have numbers; nothing where there are none
+pub record CountsValid (slots : List Slot) (count : ℕ) : Type 0 where
+  pub some : 0 < length slots
+  pub counted : HasRowNumbers (length slots) → count ≡ length (valid slots)
 
-abbrev pub HoldsCount : ColumnValue → List ℕ → Option ℕ → Type 0
-HoldsCount c rows None = length rows ≡ 0
-HoldsCount c rows (Some count) = CountsValid c rows count
+abbrev pub HoldsCount : List Slot → Option ℕ → Type 0
+HoldsCount slots None = length slots ≡ 0
+HoldsCount slots (Some count) = CountsValid slots count

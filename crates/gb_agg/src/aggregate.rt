@@ -1,6 +1,6 @@
 //! An aggregate of a column over some groups, by its method.
 
-ghost use Rattle.std.specs.Prelude.{◌≡◌, IfErr, IfOk, MatchOption, None, OnOk, Some, false, length, option_map, true};
+ghost use Rattle.std.specs.Prelude.{◌≡◌, IfErr, IfOk, None, OnOk, Some, false, length, option_map, true};
 ghost use Rattle.gb_defs.specs.ColumnType.{uint32};
 ghost use Rattle.gb_defs.specs.Fault.{InvalidOperation, has_least, has_sum};
 ghost use Rattle.gb_defs.specs.Fold.{Count, Groups, Sum, sum_type};
@@ -18,8 +18,7 @@ use crate::fold_groups::FoldGroups;
 use crate::group_sums::GroupSums;
 use crate::lists::{row_lists, slot_lists};
 use crate::method::GroupByMethod;
-use crate::number_fold::{RowCount, ValidCount, fold_groups};
-use crate::numbered_counts::{numbered_counts, numbered_valid};
+use crate::numbered_counts::GroupCounts;
 use crate::row_pick::{FirstRow, LastRow, RowPick, take_picks};
 use gb_base::error::{Operation, PolarsError, PolarsResult};
 use gb_base::small_str::PlSmallStr;
@@ -56,9 +55,7 @@ pub(crate) fn aggregate(
         GroupByMethod::Sum => column_sums(column, groups),
         GroupByMethod::Groups => column_rows(column, groups),
         GroupByMethod::NUnique => unreachable!(),
-        GroupByMethod::Count { include_nulls } => {
-            Ok(column_counts(column, include_nulls, groups)?.into_series())
-        }
+        GroupByMethod::Count { include_nulls } => column_counts(column, include_nulls, groups),
         GroupByMethod::Implode => slot_lists(column, groups),
     }
 }
@@ -83,29 +80,9 @@ pub fn aggregate_numbered(
         GroupByMethod::First => picked(column, &FirstRow::new(column), numbers),
         GroupByMethod::Last => picked(column, &LastRow::new(column), numbers),
         GroupByMethod::Sum => column_sums(column, numbers),
-        GroupByMethod::Count { include_nulls } => counted_numbers(column, include_nulls, numbers),
+        GroupByMethod::Count { include_nulls } => column_counts(column, include_nulls, numbers),
         _ => unreachable!(),
     }
-}
-
-// The number of rows, or of valid slots, of each group, under the column's name.
-fn counted_numbers(
-    column: &Series,
-    include_nulls: bool,
-    numbers: &RowNumbers,
-) -> PolarsResult<Series>
-    requires { length numbers.now.of_rows.items ≡ length (value_of column.now).slots }
-    ensures ok { IfOk result (λ s. value_of s
-        ≡ folded (Count include_nulls) (value_of column.now) (lists_in (numbered numbers.now))) }
-    ensures err { IfErr result IsNoMemory }
-{
-    let name = column.name().try_clone()?;
-    let counts = if include_nulls {
-        numbered_counts(column.allocator(), name, numbers)?
-    } else {
-        numbered_valid(column.allocator(), name, column, numbers)?
-    };
-    Ok(counts.into_series())
 }
 
 // The slots at the rows that are picked.
@@ -284,22 +261,41 @@ fn column_rows(column: &Series, groups: &GroupsView<'_>) -> PolarsResult<Series>
     row_lists(column.allocator(), name, groups)
 }
 
-// The number of rows, or of valid slots, of each group.
-fn column_counts(
+// The number of rows, or of valid slots, of each group, under the column's name.
+fn column_counts<G: FoldGroups>(
     column: &Series,
     include_nulls: bool,
-    groups: &GroupsView<'_>,
-) -> PolarsResult<UInt32Chunked>
-    requires groups { AreGroupsOf (value_of column.now) groups.now }
+    groups: &G,
+) -> PolarsResult<Series>
+    requires suits { G.suits groups.now (length (value_of column.now).slots) }
     requires short { HasRowNumbers (length (value_of column.now).slots) }
-    ensures ok { let c = value_of column.now in IfOk result (λ counts.
-        counts ≡ folded (Count include_nulls) c (lists_in groups.now)) }
+    ensures ok { let lists = lists_in (G.grouping groups.now) in IfOk result (λ s.
+        value_of s ≡ folded (Count include_nulls) (value_of column.now) lists) }
     ensures err { IfErr result IsNoMemory }
 {
     let name = column.name().try_clone()?;
-    if include_nulls {
-        fold_groups(column.allocator(), name, &RowCount, groups)
+    let counts = if include_nulls {
+        groups.row_counts(column.allocator(), name)?
     } else {
-        fold_groups(column.allocator(), name, &ValidCount::new(column), groups)
+        valid_counts(name, column, groups)?
+    };
+    Ok(counts.into_series())
+}
+
+// The number of valid slots of each group.
+fn valid_counts<G: FoldGroups>(
+    name: PlSmallStr,
+    column: &Series,
+    groups: &G,
+) -> PolarsResult<UInt32Chunked>
+    requires suits { G.suits groups.now (length (value_of column.now).slots) }
+    requires short { HasRowNumbers (length (value_of column.now).slots) }
+    ensures ok { let lists = lists_in (G.grouping groups.now) in IfOk result (λ counts. counts
+        ≡ fold_column (name_of name) uint32 (fold_in (Count false) (value_of column.now)) lists) }
+    ensures err { IfErr result IsNoMemory }
+{
+    match column {
+        Series::Flat(column) => of_column!(column, column => column.group_counts(name, groups)),
+        _ => groups.valid_rows(name, column),
     }
 }

@@ -46,7 +46,11 @@ impl<T: PolarsNumericType> GroupSums for ChunkedArray<NumberValues<T>> {
 
     ghost column = { λ c. c };
 
-    fn group_sums<G: FoldGroups>(&self, name: PlSmallStr, groups: &G) -> PolarsResult<Option<Self>> {
+    fn group_sums<G: FoldGroups>(
+        &self,
+        name: PlSmallStr,
+        groups: &G,
+    ) -> PolarsResult<Option<Self>> {
         Ok(Some(groups.number_sums(name, self)?))
     }
 }
@@ -71,7 +75,11 @@ impl<K: LogicalKind> GroupSums for Logical<K> {
 
     ghost column = { λ c. c };
 
-    fn group_sums<G: FoldGroups>(&self, name: PlSmallStr, groups: &G) -> PolarsResult<Option<Self>> {
+    fn group_sums<G: FoldGroups>(
+        &self,
+        name: PlSmallStr,
+        groups: &G,
+    ) -> PolarsResult<Option<Self>> {
         let kind = self.kind();
         if !kind.has_sum() {
             return Ok(None);

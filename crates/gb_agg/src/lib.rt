@@ -13,7 +13,7 @@ mod group_sums;
 pub mod lists;
 pub mod method;
 pub mod number_fold;
-mod numbered_counts;
+pub mod numbered_counts;
 mod numbered_folds;
 pub mod over;
 mod row_fold;

@@ -7,9 +7,10 @@ ghost use Rattle.gb_agg.specs.Picks.{IsPicked};
 ghost use Rattle.gb_paths.specs.Numbering.{numbered};
 
 use crate::fold_groups::FoldGroups;
+use crate::numbered_counts::{numbered_counts, numbered_valid};
 use crate::row_fold::{RowFold, fold_row_numbers};
 use crate::row_pick::RowPick;
-use crate::slot_fold::{ExtremeFold, SumFold, fold_numbered};
+use crate::slot_fold::{ExtremeFold, SumFold, ValidFold, fold_numbered};
 use gb_base::error::PolarsResult;
 use gb_base::nullable_idx::IdxSize;
 use gb_base::small_str::PlSmallStr;
@@ -20,6 +21,7 @@ use gb_cols::series_trait::SeriesTrait;
 use gb_groups::row_lists::AllRows;
 use gb_numbers::numeric::PolarsNumericType;
 use gb_paths::row_numbers::RowNumbers;
+use gb_values::nullable::Values;
 use gb_values::primitive::NumberValues;
 use std::alloc::Global;
 
@@ -63,6 +65,31 @@ impl FoldGroups for RowNumbers {
         let sums = fold_numbered(alloc, column, &SumFold, &rows, &self.of_rows, groups)?;
         let made = UInt32Chunked::from_slice(alloc, name, &sums)?;
         Ok(made)
+    }
+
+    fn row_counts(&self, alloc: Global, name: PlSmallStr) -> PolarsResult<UInt32Chunked> {
+        numbered_counts(alloc, name, self)
+    }
+
+    fn valid_slots<V: Values>(
+        &self,
+        name: PlSmallStr,
+        column: &ChunkedArray<V>,
+    ) -> PolarsResult<UInt32Chunked> {
+        let alloc = column.allocator();
+        let rows = AllRows::new(self.of_rows.len());
+        let groups = self.first.len();
+        let counts = fold_numbered(alloc, column, &ValidFold, &rows, &self.of_rows, groups)?;
+        let made = UInt32Chunked::from_slice_options(alloc, name, &counts)?;
+        Ok(made)
+    }
+
+    fn valid_rows<C: SeriesTrait>(
+        &self,
+        name: PlSmallStr,
+        column: &C,
+    ) -> PolarsResult<UInt32Chunked> {
+        numbered_valid(name, column, self)
     }
 
     fn pick_rows<P: RowPick>(&self, alloc: Global, pick: &P) -> PolarsResult<Vec<IdxSize>> {

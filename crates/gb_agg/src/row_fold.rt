@@ -50,11 +50,7 @@ pub(crate) fn fold_row_numbers<F: RowFold>(
 }
 
 /// One state, so many times.
-pub(crate) fn repeated<S: Copy>(
-    alloc: Global,
-    state: S,
-    count: usize,
-) -> Result<Vec<S>, AllocError>
+pub(crate) fn repeated<S: Copy>(alloc: Global, state: S, count: usize) -> Result<Vec<S>, AllocError>
     ensures { IfOk result (λ states. states.items ≡ replicate count state) }
 {
     let mut states = Vec::with_capacity(alloc, count)?;

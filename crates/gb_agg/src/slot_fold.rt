@@ -3,11 +3,11 @@
 
 ghost use Rattle.std.specs.Prelude.{◌≡◌, ◌<◌, ◌++◌, ◌∷◌, [], All, IfOk, List, length, pos, if◌then◌else◌};
 ghost use Rattle.gb_defs.specs.ColumnType.{Boolean, Flat};
-ghost use Rattle.gb_defs.specs.Fold.{picked, total, valid, wrap};
+ghost use Rattle.gb_defs.specs.Fold.{is_valid, picked, total, valid, wrap};
 ghost use Rattle.gb_defs.specs.Slot.{Num, Slot, slot_at};
 ghost use Rattle.gb_values.specs.Array.{native_slot};
 ghost use Rattle.gb_agg.specs.Extremes.{extreme_of, is_better};
-ghost use Rattle.gb_agg.specs.Numbered.{HoldEach};
+ghost use Rattle.gb_agg.specs.Numbered.{HoldEach, HoldsCount};
 
 use crate::group_rows::GroupRows;
 use crate::row_fold::repeated;
@@ -83,6 +83,40 @@ impl SlotFold<FlagValues> for SumFold {
             Some(flag) => sum.add_wrapped(u32::from(flag)),
             None => sum,
         }
+    }
+}
+
+/// How many slots are valid, none for no slots.
+#[derive(Drop)]
+pub struct ValidFold;
+
+impl<V: Values> SlotFold<V> for ValidFold {
+    type State = Option<u32>;
+
+    ghost holds = { λ _ slots count. HoldsCount slots count };
+
+    #[inline]
+    fn start(&self) -> Option<u32> {
+        None
+    }
+
+    #[inline]
+    fn with_slot(&self, count: Option<u32>, chunk: &NullableArray<V>, at: usize) -> Option<u32> {
+        with_validity(count, chunk.is_valid(at))
+    }
+}
+
+/// The count of valid slots with one more that is valid or not. Slots have numbers of 32 bits.
+#[inline]
+pub(crate) fn with_validity(count: Option<u32>, valid: bool) -> Option<u32>
+    ensures { (slots : List Slot) (s : Slot) → valid ≡ is_valid s → HoldsCount slots count
+        → HoldsCount (slots ++ s ∷ []) result }
+{
+    let so_far = count.unwrap_or(0);
+    if valid {
+        Some(so_far.saturating_add(1))
+    } else {
+        Some(so_far)
     }
 }
 
