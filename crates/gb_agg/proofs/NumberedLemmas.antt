@@ -183,17 +183,52 @@ module _ (c : ColumnValue) (numbers : RowNumbers) where
         ∙ ap (map fold) (sym (pairs_lists rows all numbers.first.items));
   }
 
-  -- how many valid slots each group has
-  pub valid_numbered : (counts : List (Option ℕ)) → HoldRows (HoldsCount c) rows all (length numbers.first.items) counts
-      → map (native_slot (λ n. pos n)) counts ≡ map (fold_in (Count false) c) (lists_in (numbered numbers))
-  valid_numbered counts have =
-      states_folded (HoldsCount c) (native_slot (λ n. pos n)) (fold_in (Count false) c) rows all (length numbers.first.items) counts
-      (λ k count is. means (rows_of rows all k) count (omega (arith, few_of rows all k as_long, numbers.few)) is) have
-      ∙ ap (map (fold_in (Count false) c)) (sym (pairs_lists rows all numbers.first.items))
+-- how many valid slots each group has
+valid_means : (t : ColumnType) (slots : List Slot) (some : List ℕ) (count : Option ℕ) → HasRowNumbers (length some) → HoldsCount (picked slots some) count → native_slot (λ n. pos n) count ≡ fold_of (Count false) t slots some
+unfolding fold_picked
+valid_means t slots [] None few is = refl
+valid_means t slots (row ∷ some) None few is = absurd (omega (arith, is))
+valid_means t slots [] (Some count) few is = let no' = is.some in absurd (omega (arith, no'))
+valid_means t slots (row ∷ some) (Some count) few is = ap (λ n. Num (pos n)) (is.counted (rw (length-map (row ∷ some) (slot_at slots)) few))
+
+pub valid_numbered : (t : ColumnType) (slots : List Slot) (numbers : RowNumbers) (count groups : ℕ) (given : List ℕ) (counts : List (Option ℕ)) →
+    count ≡ length numbers.of_rows.items → given ≡ numbers.of_rows.items → groups ≡ length numbers.first.items →
+    HoldEach HoldsCount slots (rows_below count) given groups counts →
+    map (native_slot (λ n. pos n)) counts ≡ map (fold_of (Count false) t slots) (lists_in (numbered numbers))
+valid_numbered t slots numbers count groups given counts many same known have =
+    let long : length given ≡ length (rows_below count) = omega (arith, ap (λ (ns : List ℕ). length ns) same, many, length-range_with_len 0 count) in
+    states_folded (holds_at HoldsCount slots) (native_slot (λ n. pos n)) (fold_of (Count false) t slots) (rows_below count) given groups counts
+    (λ k counted is. valid_means t slots (rows_of (rows_below count) given k) counted
+    (omega (arith, few_of (rows_below count) given k long, ap (λ (ns : List ℕ). length ns) same, numbers.few)) is) have
+    ∙ lists_numbered (fold_of (Count false) t slots) numbers count groups given many same known
+
+-- the count of no slots, or of some
+pub counted_so_far : (slots : List Slot) (count : Option ℕ) → HoldsCount slots count → HasRowNumbers (length slots) → option_or count 0 ≡ length (valid slots)
+counted_so_far [] None none few = refl
+counted_so_far (s ∷ ss) None none few = absurd (omega (arith, none))
+counted_so_far slots (Some count) is few = is.counted few
+
+module _ (slots : List Slot) (s : Slot) (so_far : ℕ) (is : HasRowNumbers (length slots) → so_far ≡ length (valid slots)) where
+  -- one slot more, with a value
+  pub counted_value : (more : ℕ) → is_nil s ≡ false → (so_far < 4294967295 → more ≡ so_far + 1) → CountsValid (slots ++ s ∷ []) more
+  counted_value more valued step = record {
+    some = omega (arith, length-append slots (s ∷ []));
+    counted = λ few.
+        let low : HasRowNumbers (length slots) = omega (arith, few, length-append slots (s ∷ [])) in
+        let at_most = length-filter_both is_valid is_nil (λ x. nil_or x) slots in
+        let next = step (omega (arith, few, length-append slots (s ∷ []), at_most, is low)) in
+        omega (arith, next, is low, ap length (valid_push_value slots s valued), length-append (valid slots) (s ∷ []));
+  }
     where
-      means : (some : List ℕ) (count : Option ℕ) → HasRowNumbers (length some) → HoldsCount c some count → native_slot (λ n. pos n) count ≡ fold_in (Count false) c some
-      unfolding fold_picked
-      means [] None few is = refl
-      means (row ∷ some) None few is = absurd (omega (arith, is))
-      means [] (Some count) few is = absurd (omega (arith, is.some))
-      means (row ∷ some) (Some count) few is = ap (λ n. Num (pos n)) (is.counted few)
+      nil_or : (x : Slot) → is_nil x ≡ not (is_valid x)
+      nil_or Nil = refl
+      nil_or (Num n) = refl
+      nil_or (Bytes b) = refl
+      nil_or (Items i) = refl
+
+  -- or without
+  pub counted_null : is_nil s ≡ true → CountsValid (slots ++ s ∷ []) so_far
+  counted_null none = record {
+    some = omega (arith, length-append slots (s ∷ []));
+    counted = λ few. is (omega (arith, few, length-append slots (s ∷ []))) ∙ ap length (sym (valid_push_null slots s none));
+  }
