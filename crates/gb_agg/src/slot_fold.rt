@@ -155,18 +155,16 @@ fn better_of<N: Native>(greatest: bool, best: Option<N>, other: Option<N>) -> Op
         let best = native_slot N.number best in
         native_slot N.number result ≡ (if is_better greatest t other best then other else best) }
 {
-    match other {
-        Some(number) => match best {
-            Some(so_far) => {
-                if is_number_better(greatest, number, so_far) {
-                    other
-                } else {
-                    best
-                }
+    match (other, best) {
+        (Some(number), Some(so_far)) => {
+            if is_number_better(greatest, number, so_far) {
+                Some(number)
+            } else {
+                Some(so_far)
             }
-            None => other,
-        },
-        None => best,
+        }
+        (Some(number), None) => Some(number),
+        (None, best) => best,
     }
 }
 
