@@ -4,7 +4,7 @@ use Rattle.std.specs.Borrow.{Bor}
 use Rattle.std.specs.Prelude.{IfOk, Result, Ok, Err}
 use Rattle.std.proofs.lemmas.Bool.{cases_Bool, eqb-true}
 use Rattle.std.proofs.lemmas.List.{append-nil, length-replicate}
-use Rattle.std.proofs.lemmas.List.Elements.{filter-append, recursion_from_All}
+use Rattle.std.proofs.lemmas.List.Elements.{All-weaker, filter-append, filter_passes, recursion_from_All}
 use Rattle.std.specs.Int.{w8, w16, w32, w64, w128}
 use Rattle.std.specs.List.{AllByRecursion}
 use Rattle.gb_defs.specs.Classes.{agree_by, groups, rows_below, same_slot}
@@ -29,6 +29,7 @@ use Rattle.gb_series.specs.declared.series.Series.{Series}
 use Rattle.gb_rows.specs.Lent.{keys_in}
 use Rattle.gb_rows.specs.Rows.{AreOfOneLength, row_slots}
 use Rattle.gb_rows.specs.Told.{AreToldByRows}
+use Rattle.gb_paths.specs.Each.{HasValues}
 use Rattle.gb_paths.specs.Keys.{null_rows}
 use Rattle.gb_defs.specs.Notes.{has_values, is_valued, path_by_keys, valued_keys}
 use Rattle.gb_paths.specs.Numbering.{AreNumbersUnder, numbered}
@@ -85,6 +86,10 @@ valued_yes keys key told = valued_more keys key ∙ ap (λ b. valued_keys keys +
 
 pub valued_no : (keys : Frame) (key : ColumnValue) → is_valued key ≡ false → valued_keys (keys ++ key ∷ []) ≡ valued_keys keys
 valued_no keys key told = valued_more keys key ∙ ap (λ b. valued_keys keys ++ (if b then key ∷ [] else [])) told ∙ append-nil (valued_keys keys)
+
+-- those that do have values
+pub valued_have : (keys : Frame) → All HasValues (valued_keys keys)
+valued_have keys = All-weaker (λ key. is_valued key ≡ true) HasValues (λ key yes' none. let bad = sym yes' ∙ ap has_values none in cc) (valued_keys keys) (filter_passes is_valued keys)
 
 -- ---- rows of all keys
 
