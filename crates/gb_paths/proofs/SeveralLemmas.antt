@@ -10,7 +10,7 @@ use Rattle.std.specs.List.{AllByRecursion}
 use Rattle.gb_defs.specs.Classes.{agree_by, groups, rows_below, same_slot}
 use Rattle.gb_defs.specs.Column.{ColumnValue, Frame, all_have_length, frame_height}
 use Rattle.gb_defs.specs.ColumnType.{ColumnType, Flat, ListOf, ArrayOf, StructOf, Null, Boolean, Unsigned, Signed, Decimal, Date, Time, Datetime, Duration, String, Binary, BinaryOffset, Categorical, Enum}
-use Rattle.gb_defs.specs.Groups.{Slice}
+use Rattle.gb_defs.specs.Groups.{Grouping, IsWellFormed, Slice}
 use Rattle.gb_defs.specs.Hash.{hash_of, seed_mix}
 use Rattle.gb_defs.specs.Path as path
 use Rattle.gb_defs.specs.RowBytes.{row_bytes}
@@ -37,6 +37,7 @@ use Rattle.gb_paths.specs.declared.path.KeyPath.{KeyPath}
 use Rattle.gb_paths.specs.declared.row_numbers.RowNumbers.{RowNumbers}
 use Rattle.gb_paths.specs.Tuples.{IsNullUnlessValued, all_path, key_path_value, rows_of_all, slots_at, slots_of, tuples_by, tuples_of_bytes}
 use Rattle.gb_paths.proofs.KeyFormLemmas.{parts_by_variant}
+use Rattle.gb_paths.proofs.FormLemmas.{path_formed}
 use Rattle.gb_paths.proofs.LeaderLemmas.{numbers_alike}
 use Rattle.gb_paths.proofs.PartLemmas.{numbers_path}
 use Rattle.gb_paths.proofs.RowBytesLemmas.{row_at, rows_many}
@@ -219,10 +220,14 @@ module _ (keys : Frame) (many : 1 < length keys) (aligned : AreOfOneLength keys)
       ∙ sym (several keys multithreaded sorted pool many)
 
   -- by the numbers of the groups of the keys that tell rows apart
-  pub tuples_by_numbers : 0 < length (valued_keys keys) → (path : KeyPath) (numbers : RowNumbers)
-      → key_path_value path ≡ path.hashed_path true (frame_height keys) multithreaded (workers_of pool) (threshold_of pool)
-      → AreNumbersUnder (agree_by (slots_of (valued_keys keys))) (rows_below (frame_height (valued_keys keys))) numbers
-      → (numbered numbers ≡ tuples_by keys multithreaded true pool) × (length numbers.of_rows.items ≡ frame_height keys)
+  record AreTuples (numbers : RowNumbers) : Type 0 where
+    pub groups : numbered numbers ≡ tuples_by keys multithreaded true pool
+    pub formed : IsWellFormed (frame_height keys) (numbered numbers).pairs
+    pub many : length numbers.of_rows.items ≡ frame_height keys
+
+  pub tuples_by_numbers : 0 < length (valued_keys keys) → (way : KeyPath) (numbers : RowNumbers)
+      → key_path_value way ≡ path.hashed_path true (frame_height keys) multithreaded (workers_of pool) (threshold_of pool)
+      → AreNumbersUnder (agree_by (slots_of (valued_keys keys))) (rows_below (frame_height (valued_keys keys))) numbers → AreTuples numbers
   tuples_by_numbers some way numbers is are =
       let n = frame_height keys in
       let rows = rows_of_all (seed_of pool) keys in
@@ -230,12 +235,15 @@ module _ (keys : Frame) (many : 1 < length keys) (aligned : AreOfOneLength keys)
       λ i j low high. sym (ap (λ f. f i j) (all_agree keys) ∙ valued_agree keys (by_recursion keys aligned nulls) i j) in
       let low : AreNumbersUnder (agree_by (slots_of (valued_keys keys))) (rows_below n) numbers =
       subst (λ m. AreNumbersUnder (agree_by (slots_of (valued_keys keys))) (rows_below m) numbers) (valued_height keys aligned some) are in
-      let by = numbers_path rows way pool numbers (numbers_alike (agree_by (slots_of (valued_keys keys))) (same_slot_at (slots_at keys)) n alike numbers.first.items numbers.of_rows.items low) in (
-        by.groups
+      let by = numbers_path rows way pool numbers (numbers_alike (agree_by (slots_of (valued_keys keys))) (same_slot_at (slots_at keys)) n alike numbers.first.items numbers.of_rows.items low) in
+      record {
+        groups =
+            by.groups
             ∙ ap (λ p. path.path_groups p rows 0 (partitions_of pool) true) (is ∙ sym (some_path (valued_keys keys) n multithreaded (workers_of pool) (threshold_of pool) some))
-            ∙ sym (several keys multithreaded true pool many),
-        by.many,
-      )
+            ∙ sym (several keys multithreaded true pool many);
+        formed = subst (λ (made : Grouping). IsWellFormed n made.pairs) (sym by.groups) (path_formed (key_path_value way) rows 0 (partitions_of pool) true);
+        many = by.many;
+      }
 
 -- two facts of one value
 pub also_ok : {A E : Type 0} (r : Result A E) (P Q : A → Type 0) → IfOk r P → IfOk r Q → IfOk r (λ x. P x × Q x)
