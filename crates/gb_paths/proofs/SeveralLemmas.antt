@@ -1,5 +1,5 @@
 -- Rows of several keys: they agree as rows of one slot, and stand for their bytes.
-use Rattle.std.proofs.Common.{◌≡◌, ◌==◌, inl, inr, ℕ, ◌<◌, Bool, true, false, not, ◌&&◌, List, [], ◌∷◌, ◌++◌, length, get_or, replicate, All, if◌then◌else◌, refl, sym, ◌∙◌, ap, arith}
+use Rattle.std.proofs.Common.{◌≡◌, ◌==◌, inl, inr, ℕ, ◌<◌, Bool, true, false, not, ◌&&◌, List, [], ◌∷◌, ◌++◌, length, get_or, replicate, All, if◌then◌else◌, refl, sym, ◌∙◌, ap, arith, subst}
 use Rattle.std.specs.Borrow.{Bor}
 use Rattle.std.specs.Prelude.{IfOk, Result, Ok, Err}
 use Rattle.std.proofs.lemmas.Bool.{cases_Bool, eqb-true}
@@ -220,10 +220,10 @@ module _ (keys : Frame) (many : 1 < length keys) (aligned : AreOfOneLength keys)
       ∙ sym (several keys multithreaded sorted pool many)
 
   -- by the numbers of the groups of the keys that tell rows apart
-  record AreTuples (numbers : RowNumbers) : Type 0 where
+  pub record AreTuples (numbers : RowNumbers) : Type 0 where
     pub groups : numbered numbers ≡ tuples_by keys multithreaded true pool
     pub formed : IsWellFormed (frame_height keys) (numbered numbers).pairs
-    pub many : length numbers.of_rows.items ≡ frame_height keys
+    pub long : length numbers.of_rows.items ≡ frame_height keys
 
   pub tuples_by_numbers : 0 < length (valued_keys keys) → (way : KeyPath) (numbers : RowNumbers)
       → key_path_value way ≡ path.hashed_path true (frame_height keys) multithreaded (workers_of pool) (threshold_of pool)
@@ -242,7 +242,7 @@ module _ (keys : Frame) (many : 1 < length keys) (aligned : AreOfOneLength keys)
             ∙ ap (λ p. path.path_groups p rows 0 (partitions_of pool) true) (is ∙ sym (some_path (valued_keys keys) n multithreaded (workers_of pool) (threshold_of pool) some))
             ∙ sym (several keys multithreaded true pool many);
         formed = subst (λ (made : Grouping). IsWellFormed n made.pairs) (sym by.groups) (path_formed (key_path_value way) rows 0 (partitions_of pool) true);
-        many = by.many;
+        long = by.many;
       }
 
 -- two facts of one value

@@ -65,7 +65,7 @@ numbers_several-requires-clause-few g c κs within =
     subst (λ ks. frame_height ks < 4294967296) (sym (ap keys_in c.deref.ensures.value ∙ valued)) (rw (valued_height keys c.requires.aligned some_keys) c.requires.few)
 
 pub numbers_several-requires-clause-valued : goal.numbers_several-requires-clause-valued
-numbers_several-requires-clause-valued g c =
+numbers_several-requires-clause-valued g c κs within =
     let keys = keys_in c.args.keys.now in
     subst (λ (ks : Frame). All HasValues ks) (sym (ap keys_in c.deref.ensures.value ∙ c.in_ok-valued.ensures.valued)) (valued_have keys)
 
@@ -82,11 +82,49 @@ returns-in-Some-clause-ok g c =
     let some_keys : 0 < length (valued_keys keys) = subst (λ ks. 0 < length ks) valued (rw (length-map items (λ key. value_of key.now)) some) in
     let many : 1 < length keys = rw (length-map lent (λ key. value_of key.now)) c.requires.several in
     let rows = c.len-2.ensures.value ∙ ap (λ key. length (value_of key.now).slots) c.index-keys-0-2.is ∙ first_lent lent c.index-keys-0-2.result (omega (arith, c.requires.several)) in
-    let are : AreNumbersUnder (agree_by (slots_of (keys_in c.deref.result.now))) (rows_below (frame_height (keys_in c.deref.result.now))) numbers = rw c.in-Some.is at c.in_ok-numbers_several.ensures.ok in
+    let are : AreNumbersUnder (agree_by (slots_of (keys_in c.deref.result.now))) (rows_below (frame_height (keys_in c.deref.result.now))) numbers = rw c.in-Some.is at c.in_ok-numbers.ensures.ok in
     let made = tuples_by_numbers keys many c.requires.aligned c.in_ok-valued.ensures.nulls m c.args.sorted pool some_keys c.choose_path-path.result numbers
     (c.choose_path-path.ensures ∙ ap (λ n. hashed_path true n m (workers_of pool) (threshold_of pool)) rows)
     (subst (λ (ks : Frame). AreNumbersUnder (agree_by (slots_of ks)) (rows_below (frame_height ks)) numbers) (ap keys_in c.deref.ensures.value ∙ valued) are) in
     made.groups ∙ ap (λ (b : Bool). tuples_by keys m b pool) (sym c.if-sorted.true)
+
+pub returns-in-Some-clause-formed : goal.returns-in-Some-clause-formed
+returns-in-Some-clause-formed g c =
+    let lent = c.args.keys.now in
+    let keys = keys_in lent in
+    let items = c.in_ok-valued.valued.items in
+    let valued = c.in_ok-valued.ensures.valued in
+    let pool = c.args.pool.now in
+    let m = c.args.multithreaded in
+    let numbers = c.in-Some.numbers in
+    let some : 0 < length items = search rules in
+    let some_keys : 0 < length (valued_keys keys) = subst (λ ks. 0 < length ks) valued (rw (length-map items (λ key. value_of key.now)) some) in
+    let many : 1 < length keys = rw (length-map lent (λ key. value_of key.now)) c.requires.several in
+    let rows = c.len-2.ensures.value ∙ ap (λ key. length (value_of key.now).slots) c.index-keys-0-2.is ∙ first_lent lent c.index-keys-0-2.result (omega (arith, c.requires.several)) in
+    let are : AreNumbersUnder (agree_by (slots_of (keys_in c.deref.result.now))) (rows_below (frame_height (keys_in c.deref.result.now))) numbers = rw c.in-Some.is at c.in_ok-numbers.ensures.ok in
+    let made = tuples_by_numbers keys many c.requires.aligned c.in_ok-valued.ensures.nulls m c.args.sorted pool some_keys c.choose_path-path.result numbers
+    (c.choose_path-path.ensures ∙ ap (λ n. hashed_path true n m (workers_of pool) (threshold_of pool)) rows)
+    (subst (λ (ks : Frame). AreNumbersUnder (agree_by (slots_of ks)) (rows_below (frame_height ks)) numbers) (ap keys_in c.deref.ensures.value ∙ valued) are) in
+    made.formed
+
+pub returns-in-Some-clause-all : goal.returns-in-Some-clause-all
+returns-in-Some-clause-all g c =
+    let lent = c.args.keys.now in
+    let keys = keys_in lent in
+    let items = c.in_ok-valued.valued.items in
+    let valued = c.in_ok-valued.ensures.valued in
+    let pool = c.args.pool.now in
+    let m = c.args.multithreaded in
+    let numbers = c.in-Some.numbers in
+    let some : 0 < length items = search rules in
+    let some_keys : 0 < length (valued_keys keys) = subst (λ ks. 0 < length ks) valued (rw (length-map items (λ key. value_of key.now)) some) in
+    let many : 1 < length keys = rw (length-map lent (λ key. value_of key.now)) c.requires.several in
+    let rows = c.len-2.ensures.value ∙ ap (λ key. length (value_of key.now).slots) c.index-keys-0-2.is ∙ first_lent lent c.index-keys-0-2.result (omega (arith, c.requires.several)) in
+    let are : AreNumbersUnder (agree_by (slots_of (keys_in c.deref.result.now))) (rows_below (frame_height (keys_in c.deref.result.now))) numbers = rw c.in-Some.is at c.in_ok-numbers.ensures.ok in
+    let made = tuples_by_numbers keys many c.requires.aligned c.in_ok-valued.ensures.nulls m c.args.sorted pool some_keys c.choose_path-path.result numbers
+    (c.choose_path-path.ensures ∙ ap (λ n. hashed_path true n m (workers_of pool) (threshold_of pool)) rows)
+    (subst (λ (ks : Frame). AreNumbersUnder (agree_by (slots_of ks)) (rows_below (frame_height ks)) numbers) (ap keys_in c.deref.ensures.value ∙ valued) are) in
+    record { wanted = c.if-by_numbers.true; many = made.long }
 
 pub classes_of_row_bytes-requires-clause-aligned : goal.classes_of_row_bytes-requires-clause-aligned
 classes_of_row_bytes-requires-clause-aligned g c κs within =

@@ -13,15 +13,15 @@ use Rattle.gb_paths.proofs.EachLemmas.{forms_rows, numbers_of_forms}
 use Rattle.gb_paths.proofs.SeveralLemmas.{first_lent}
 use Rattle.gb_paths.proofs.by_keys.numbers_several.Goals as goal
 
-pub invariant_of-several-clause-rows : goal.invariant_of-several-clause-rows
-invariant_of-several-clause-rows g c =
+pub invariant_of-several : goal.invariant_of-several
+invariant_of-several g c =
     let lent = c.args.keys.now in
     let columns = keys_in lent in
     let seed = c.seed.result in
     let some : 0 < length columns = rw (length-map lent (λ key. value_of key.now)) c.requires.some in
     let many : c.len.result ≡ frame_height columns = c.len.ensures.value ∙ ap (λ key. length (value_of key.now).slots) c.index-keys-0.is ∙ first_lent lent c.index-keys-0.result c.requires.some in
     let rows : HaveRows seed (frame_height columns) c.in_ok-all.all.items = forms_rows seed columns c.in_ok-all.all.items c.requires.aligned c.requires.few some c.in_ok-all.ensures.ok in
-    subst (λ (n : ℕ). HaveRows seed n c.deref.result.now) (sym many) (subst (λ (ks : List Keys). HaveRows seed (frame_height columns) ks) (sym c.deref.ensures.value) rows)
+    record { rows = subst (λ (n : ℕ). HaveRows seed n c.deref.result.now) (sym many) (subst (λ (ks : List Keys). HaveRows seed (frame_height columns) ks) (sym c.deref.ensures.value) rows) }
 
 pub returns-clause-ok : goal.returns-clause-ok
 returns-clause-ok g c =
