@@ -6,7 +6,7 @@ use Rattle.std.proofs.lemmas.List.{get_or-map, length-map}
 use Rattle.std.proofs.lemmas.List.Elements.{All-from_recursion}
 use Rattle.std.proofs.lemmas.Slice.Zip.{AllZip-long}
 use Rattle.std.proofs.lemmas.Bool.{and_parts, cases_Bool, eqb-true}
-use Rattle.gb_defs.specs.Classes.{agree_by}
+use Rattle.gb_defs.specs.Classes.{agree_by, rows_below}
 use Rattle.gb_defs.specs.Groups.{HasRowNumbers}
 use Rattle.gb_defs.specs.Rows.{same_slot_at}
 use Rattle.gb_defs.proofs.SlotLemmas.{slot_eq_equiv}
@@ -17,9 +17,11 @@ use Rattle.gb_series.specs.Series.{value_of}
 use Rattle.gb_series.specs.declared.series.Series.{Series}
 use Rattle.gb_paths.specs.Each.{HasValues, HaveRows, agree_in}
 use Rattle.gb_paths.specs.Keys.{StandFor, rows_of_keys}
-use Rattle.gb_paths.specs.Numbering.{both_agree}
+use Rattle.gb_paths.specs.Numbering.{AreNumbersUnder, both_agree}
 use Rattle.gb_paths.specs.Tuples.{slots_of}
 use Rattle.gb_paths.specs.declared.keys.Keys.{Keys}
+use Rattle.gb_paths.specs.declared.row_numbers.RowNumbers.{RowNumbers}
+use Rattle.gb_paths.proofs.LeaderLemmas.{numbers_alike}
 
 -- ---- rows that agree by several keys
 
@@ -104,3 +106,10 @@ forms_rows seed columns all aligned few some zip = record {
   each = All-from_recursion (λ keys. (rows_of_keys seed keys).count ≡ frame_height columns) all (forms_many seed (frame_height columns) columns all aligned zip);
   few = few;
 }
+
+-- so that numbers by the forms are numbers by the columns
+pub numbers_of_forms : (seed : ℕ) (columns : Frame) (all : List Keys) → AreOfOneLength columns → AllZip StandFor columns all → (numbers : RowNumbers)
+    → AreNumbersUnder (agree_in seed all) (rows_below (frame_height columns)) numbers → AreNumbersUnder (agree_by (slots_of columns)) (rows_below (frame_height columns)) numbers
+numbers_of_forms seed columns all aligned zip numbers are =
+    numbers_alike (agree_in seed all) (agree_by (slots_of columns)) (frame_height columns) (forms_agree seed (frame_height columns) columns all aligned zip)
+    numbers.first.items numbers.of_rows.items are

@@ -1,16 +1,16 @@
 -- Rows of several keys: they agree as rows of one slot, and stand for their bytes.
-use Rattle.std.proofs.Common.{◌≡◌, ◌==◌, inl, inr, ℕ, ◌<◌, Bool, true, false, not, ◌&&◌, List, [], ◌∷◌, ◌++◌, length, get_or, replicate, All, if◌then◌else◌, refl, sym, ◌∙◌, ap, arith}
+use Rattle.std.proofs.Common.{◌≡◌, ◌==◌, inl, inr, ℕ, ◌<◌, Bool, true, false, not, ◌&&◌, List, [], ◌∷◌, ◌++◌, length, get_or, replicate, All, if◌then◌else◌, refl, sym, ◌∙◌, ap, arith, subst}
 use Rattle.std.specs.Borrow.{Bor}
 use Rattle.std.specs.Prelude.{IfOk, Result, Ok, Err}
 use Rattle.std.proofs.lemmas.Bool.{cases_Bool, eqb-true}
 use Rattle.std.proofs.lemmas.List.{append-nil, length-replicate}
-use Rattle.std.proofs.lemmas.List.Elements.{filter-append, recursion_from_All}
+use Rattle.std.proofs.lemmas.List.Elements.{All-weaker, filter-append, filter_passes, recursion_from_All}
 use Rattle.std.specs.Int.{w8, w16, w32, w64, w128}
 use Rattle.std.specs.List.{AllByRecursion}
 use Rattle.gb_defs.specs.Classes.{agree_by, groups, rows_below, same_slot}
 use Rattle.gb_defs.specs.Column.{ColumnValue, Frame, all_have_length, frame_height}
 use Rattle.gb_defs.specs.ColumnType.{ColumnType, Flat, ListOf, ArrayOf, StructOf, Null, Boolean, Unsigned, Signed, Decimal, Date, Time, Datetime, Duration, String, Binary, BinaryOffset, Categorical, Enum}
-use Rattle.gb_defs.specs.Groups.{Slice}
+use Rattle.gb_defs.specs.Groups.{Grouping, IsWellFormed, Slice}
 use Rattle.gb_defs.specs.Hash.{hash_of, seed_mix}
 use Rattle.gb_defs.specs.Path as path
 use Rattle.gb_defs.specs.RowBytes.{row_bytes}
@@ -29,6 +29,7 @@ use Rattle.gb_series.specs.declared.series.Series.{Series}
 use Rattle.gb_rows.specs.Lent.{keys_in}
 use Rattle.gb_rows.specs.Rows.{AreOfOneLength, row_slots}
 use Rattle.gb_rows.specs.Told.{AreToldByRows}
+use Rattle.gb_paths.specs.Each.{HasValues}
 use Rattle.gb_paths.specs.Keys.{null_rows}
 use Rattle.gb_defs.specs.Notes.{has_values, is_valued, path_by_keys, valued_keys}
 use Rattle.gb_paths.specs.Numbering.{AreNumbersUnder, numbered}
@@ -36,6 +37,7 @@ use Rattle.gb_paths.specs.declared.path.KeyPath.{KeyPath}
 use Rattle.gb_paths.specs.declared.row_numbers.RowNumbers.{RowNumbers}
 use Rattle.gb_paths.specs.Tuples.{IsNullUnlessValued, all_path, key_path_value, rows_of_all, slots_at, slots_of, tuples_by, tuples_of_bytes}
 use Rattle.gb_paths.proofs.KeyFormLemmas.{parts_by_variant}
+use Rattle.gb_paths.proofs.FormLemmas.{path_formed}
 use Rattle.gb_paths.proofs.LeaderLemmas.{numbers_alike}
 use Rattle.gb_paths.proofs.PartLemmas.{numbers_path}
 use Rattle.gb_paths.proofs.RowBytesLemmas.{row_at, rows_many}
@@ -85,6 +87,10 @@ valued_yes keys key told = valued_more keys key ∙ ap (λ b. valued_keys keys +
 
 pub valued_no : (keys : Frame) (key : ColumnValue) → is_valued key ≡ false → valued_keys (keys ++ key ∷ []) ≡ valued_keys keys
 valued_no keys key told = valued_more keys key ∙ ap (λ b. valued_keys keys ++ (if b then key ∷ [] else [])) told ∙ append-nil (valued_keys keys)
+
+-- those that do have values
+pub valued_have : (keys : Frame) → All HasValues (valued_keys keys)
+valued_have keys = All-weaker (λ key. is_valued key ≡ true) HasValues (λ key yes' none. let bad = sym yes' ∙ ap has_values none in cc) (valued_keys keys) (filter_passes is_valued keys)
 
 -- ---- rows of all keys
 
@@ -214,10 +220,14 @@ module _ (keys : Frame) (many : 1 < length keys) (aligned : AreOfOneLength keys)
       ∙ sym (several keys multithreaded sorted pool many)
 
   -- by the numbers of the groups of the keys that tell rows apart
-  pub tuples_by_numbers : 0 < length (valued_keys keys) → (path : KeyPath) (numbers : RowNumbers)
-      → key_path_value path ≡ path.hashed_path true (frame_height keys) multithreaded (workers_of pool) (threshold_of pool)
-      → AreNumbersUnder (agree_by (slots_of (valued_keys keys))) (rows_below (frame_height (valued_keys keys))) numbers
-      → (numbered numbers ≡ tuples_by keys multithreaded true pool) × (length numbers.of_rows.items ≡ frame_height keys)
+  pub record AreTuples (numbers : RowNumbers) : Type 0 where
+    pub groups : numbered numbers ≡ tuples_by keys multithreaded true pool
+    pub formed : IsWellFormed (frame_height keys) (numbered numbers).pairs
+    pub long : length numbers.of_rows.items ≡ frame_height keys
+
+  pub tuples_by_numbers : 0 < length (valued_keys keys) → (way : KeyPath) (numbers : RowNumbers)
+      → key_path_value way ≡ path.hashed_path true (frame_height keys) multithreaded (workers_of pool) (threshold_of pool)
+      → AreNumbersUnder (agree_by (slots_of (valued_keys keys))) (rows_below (frame_height (valued_keys keys))) numbers → AreTuples numbers
   tuples_by_numbers some way numbers is are =
       let n = frame_height keys in
       let rows = rows_of_all (seed_of pool) keys in
@@ -225,12 +235,15 @@ module _ (keys : Frame) (many : 1 < length keys) (aligned : AreOfOneLength keys)
       λ i j low high. sym (ap (λ f. f i j) (all_agree keys) ∙ valued_agree keys (by_recursion keys aligned nulls) i j) in
       let low : AreNumbersUnder (agree_by (slots_of (valued_keys keys))) (rows_below n) numbers =
       subst (λ m. AreNumbersUnder (agree_by (slots_of (valued_keys keys))) (rows_below m) numbers) (valued_height keys aligned some) are in
-      let by = numbers_path rows way pool numbers (numbers_alike (agree_by (slots_of (valued_keys keys))) (same_slot_at (slots_at keys)) n alike numbers.first.items numbers.of_rows.items low) in (
-        by.groups
+      let by = numbers_path rows way pool numbers (numbers_alike (agree_by (slots_of (valued_keys keys))) (same_slot_at (slots_at keys)) n alike numbers.first.items numbers.of_rows.items low) in
+      record {
+        groups =
+            by.groups
             ∙ ap (λ p. path.path_groups p rows 0 (partitions_of pool) true) (is ∙ sym (some_path (valued_keys keys) n multithreaded (workers_of pool) (threshold_of pool) some))
-            ∙ sym (several keys multithreaded true pool many),
-        by.many,
-      )
+            ∙ sym (several keys multithreaded true pool many);
+        formed = subst (λ (made : Grouping). IsWellFormed n made.pairs) (sym by.groups) (path_formed (key_path_value way) rows 0 (partitions_of pool) true);
+        long = by.many;
+      }
 
 -- two facts of one value
 pub also_ok : {A E : Type 0} (r : Result A E) (P Q : A → Type 0) → IfOk r P → IfOk r Q → IfOk r (λ x. P x × Q x)

@@ -24,7 +24,7 @@ AreNumbersUnder agree rows numbers = AreNumbersOf agree rows numbers.first.items
 
 -- of some rows by what they hold
 abbrev pub AreNumbersAmong : Rows → List ℕ → RowNumbers → Type 0
-AreNumbersAmong rows members numbers = AreNumbersUnder (same_slot_at rows.slot) members numbers
+AreNumbersAmong rows members numbers = AreNumbersOf (same_slot_at rows.slot) members numbers.first.items numbers.of_rows.items
 
 -- the groups of rows whose numbers they are, in the order of their first rows
 abbrev pub numbered : RowNumbers → Grouping

@@ -13,11 +13,16 @@ const LINES: &str = "a,1\nb,2\na,3\nc,\n";
 
 const ANSWER: &str = "k:str,v_sum:i64,v_count:u32\na,40000,20000\nb,20000,10000\nc,0,10000\n";
 
-// A table of 40,000 rows, 10,000 times the same four.
-fn table(alloc: Global) -> Result<Vec<u8>, Fail> {
-    let mut text = String::from_str(alloc, "k,v:i64\n")?;
-    for _ in 0..10_000 {
-        text.push_str(LINES)?;
+const PAIRS: &str = "a,x,1\nb,x,2\na,y,3\na,x,\n";
+
+const PAIRED: &str =
+    "k:str,j:str,v_sum:i64,v_count:u32\na,x,35000,70000\nb,x,70000,35000\na,y,105000,35000\n";
+
+// A header, and so many times the same lines.
+fn table(alloc: Global, header: &str, lines: &str, times: usize) -> Result<Vec<u8>, Fail> {
+    let mut text = String::from_str(alloc, header)?;
+    for _ in 0..times {
+        text.push_str(lines)?;
     }
     Ok(Vec::from_slice(alloc, text.as_bytes())?)
 }
@@ -72,9 +77,25 @@ fn folds_by_workers(rt: HostRuntime) -> Result<(), Fail> {
         "group --by k --agg sum:v --agg count:v --workers 4",
     ];
     for words in cases.iter() {
-        let (status, sink) = written(&rt, rt.alloc(), words, table(rt.alloc())?)?;
+        let input = table(rt.alloc(), "k,v:i64\n", LINES, 10_000)?;
+        let (status, sink) = written(&rt, rt.alloc(), words, input)?;
         assert_eq!(rt; status.code(), 0);
         assert_eq!(rt; sink.bytes(), ANSWER.as_bytes());
+    }
+    Ok(())
+}
+
+#[test]
+fn pairs_of_keys(rt: HostRuntime) -> Result<(), Fail> {
+    let cases = [
+        "group --by k --by j --agg sum:v --agg count:v --workers 1",
+        "group --by k --by j --agg sum:v --agg count:v --workers 4",
+    ];
+    for words in cases.iter() {
+        let input = table(rt.alloc(), "k,j,v:i64\n", PAIRS, 35_000)?;
+        let (status, sink) = written(&rt, rt.alloc(), words, input)?;
+        assert_eq!(rt; status.code(), 0);
+        assert_eq!(rt; sink.bytes(), PAIRED.as_bytes());
     }
     Ok(())
 }
