@@ -5,7 +5,7 @@ use Rattle.std.specs.Prelude.{if◌then◌else◌}
 use Rattle.std.proofs.lemmas.List.{map-append}
 use Rattle.gb_defs.specs.Slot.{Slot, Num}
 use Rattle.gb_defs.specs.ColumnType.{ColumnType, FlatType, Flat}
-use Rattle.gb_agg.specs.Folds.{extreme, extremes_of_column, fold_column, fold_in, folded, rows_fold, sums_of_column}
+use Rattle.gb_agg.specs.Folds.{extreme, extremes_of_column, fold_column, fold_in, folded, rows_fold, sums_of_column, unfit_of}
 use Rattle.gb_defs.specs.Column.{ColumnValue, categories_of, fresh_column}
 use Rattle.gb_defs.specs.Fault.{has_least, has_sum, sums_flat}
 use Rattle.gb_defs.specs.Fold.{Sum, Count, fold_of, fold_picked, picked, sum_type, wrap_flat, total, valid}
@@ -80,8 +80,25 @@ module _ (g : Bool) (c : ColumnValue) (lists : List (List ℕ)) where
     | inr none ↦ let bad = rw none at e in cc
   ]
 
+  pub extremes_fit : has_least c.dtype ≡ true → unfit_of (extreme g) c ≡ None
+  extremes_fit has = by g
+    where
+      by : (g : Bool) → unfit_of (extreme g) c ≡ None
+      by false = rw has refl
+      by true = rw has refl
+
   pub no_extremes_told : ◌≡◌ {A = Option ColumnValue} None (extremes_of_column g c lists) → has_least c.dtype ≡ false
   no_extremes_told e = elim (cases_Bool (has_least c.dtype)) [
     | inl has ↦ let bad = rw has at e in cc
     | inr none ↦ none
   ]
+
+-- ---- valid slots, whatever the type
+
+valid_by : (t u : ColumnType) (slots : List Slot) → fold_of (Count false) t slots ≡ fold_of (Count false) u slots
+unfolding fold_picked
+valid_by t u slots = refl
+
+-- those of a column are those of one with the same slots
+pub valid_alike : (c physical : ColumnValue) → c.slots ≡ physical.slots → fold_in (Count false) physical ≡ fold_in (Count false) c
+valid_alike c physical same = valid_by physical.dtype c.dtype physical.slots ∙ ap (fold_of (Count false) c.dtype) (sym same)

@@ -1,17 +1,21 @@
 -- What is known of the rows of each group, one row more.
-use Rattle.std.proofs.Common.{◌≡◌, ◌∙◌, ap, sym, refl, subst, ap₂, ℕ, suc, ◌+◌, ◌<◌, ◌≤◌, ◌==◌, cond, map, pos, ℤ, inl, inr, eqb, Bool, false, List, [], ◌∷◌, ◌++◌, All, Option, None, Some, length, get_or, replicate, set, take, arith}
+use Rattle.std.proofs.Common.{◌≡◌, ◌∙◌, ap, sym, refl, subst, ap₂, ℕ, suc, ◌+◌, ◌<◌, ◌≤◌, ◌==◌, cond, map, pos, ℤ, inl, inr, eqb, not, Bool, true, false, List, [], ◌∷◌, ◌++◌, All, Option, None, Some, length, get_or, replicate, set, take, arith}
+use Rattle.std.specs.Prelude.{if◌then◌else◌}
 use Rattle.std.specs.List.{range_with_len}
+use Rattle.std.specs.Option.{unwrap_or}
 use Rattle.std.proofs.lemmas.List.Elements.{All-from_recursion}
+use Rattle.std.proofs.lemmas.List.Filters.{length-filter_both}
 use Rattle.std.proofs.lemmas.List.FromFn.{length-range_with_len}
 use Rattle.std.proofs.lemmas.Simd.{map-map}
 use Rattle.std.proofs.lemmas.Bool.{cases_Bool, cases_eq, cases_lt, eq-eqb, ne_eqb}
-use Rattle.std.proofs.lemmas.List.{append-nil, get_or-replicate, get_or-set_other, get_or-set_same, length-replicate, length-set, length-take, take_all, take_more}
+use Rattle.std.proofs.lemmas.List.{append-nil, get_or-replicate, get_or-set_other, get_or-set_same, length-append, length-map, length-replicate, length-set, length-take, take_all, take_more}
 use Rattle.gb_defs.specs.Classes.{rows_below}
 use Rattle.gb_defs.specs.Column.{ColumnValue}
 use Rattle.gb_defs.specs.ColumnType.{ColumnType}
-use Rattle.gb_defs.specs.Fold.{Count, Sum, fold_of, fold_picked, picked, total, valid, wrap}
+use Rattle.gb_defs.specs.Fold.{Count, Sum, fold_of, fold_picked, is_valid, picked, total, valid, wrap}
+use Rattle.gb_defs.proofs.FoldLemmas.{valid_push_null, valid_push_value}
 use Rattle.gb_defs.specs.Groups.{HasRowNumbers, lists_in}
-use Rattle.gb_defs.specs.Slot.{Slot, Nil, Num, slot_at}
+use Rattle.gb_defs.specs.Slot.{Slot, Nil, Num, Bytes, Items, is_nil, slot_at}
 use Rattle.gb_defs.proofs.ClassesLemmas.{rows_below_all}
 use Rattle.gb_paths.specs.Numbering.{numbered}
 use Rattle.gb_paths.specs.declared.row_numbers.RowNumbers.{RowNumbers}
@@ -21,7 +25,7 @@ use Rattle.gb_groups.specs.Numbers.{count_of, counts_by, lists_by, rows_of}
 use Rattle.gb_values.specs.Array.{native_slot}
 use Rattle.gb_agg.specs.Extremes.{extreme_of}
 use Rattle.gb_agg.specs.Folds.{extreme, fold_in, rows_fold}
-use Rattle.gb_agg.specs.Numbered.{HoldEach, HoldRows, HoldsCount, holds_at}
+use Rattle.gb_agg.specs.Numbered.{CountsValid, HoldEach, HoldRows, HoldsCount, holds_at}
 use Rattle.gb_agg.specs.Picks.{ArePicks, IsPicked}
 use Rattle.gb_agg.proofs.ExtremeLemmas.{fold_extreme}
 
@@ -189,7 +193,10 @@ unfolding fold_picked
 valid_means t slots [] None few is = refl
 valid_means t slots (row ∷ some) None few is = absurd (omega (arith, is))
 valid_means t slots [] (Some count) few is = let no' = is.some in absurd (omega (arith, no'))
-valid_means t slots (row ∷ some) (Some count) few is = ap (λ n. Num (pos n)) (is.counted (rw (length-map (row ∷ some) (slot_at slots)) few))
+valid_means t slots (row ∷ some) (Some count) few is =
+    let some_rows : (length (row ∷ some) == 0) ≡ false = ne_eqb (length (row ∷ some)) 0 (λ e. omega (arith, e)) in
+    ap (λ n. Num (pos n)) (is.counted (rw (length-map (row ∷ some) (slot_at slots)) few))
+    ∙ sym (ap (λ (b : Bool). if b then Nil else Num (pos (length (valid (picked slots (row ∷ some)))))) some_rows)
 
 pub valid_numbered : (t : ColumnType) (slots : List Slot) (numbers : RowNumbers) (count groups : ℕ) (given : List ℕ) (counts : List (Option ℕ)) →
     count ≡ length numbers.of_rows.items → given ≡ numbers.of_rows.items → groups ≡ length numbers.first.items →
@@ -203,7 +210,7 @@ valid_numbered t slots numbers count groups given counts many same known have =
     ∙ lists_numbered (fold_of (Count false) t slots) numbers count groups given many same known
 
 -- the count of no slots, or of some
-pub counted_so_far : (slots : List Slot) (count : Option ℕ) → HoldsCount slots count → HasRowNumbers (length slots) → option_or count 0 ≡ length (valid slots)
+pub counted_so_far : (slots : List Slot) (count : Option ℕ) → HoldsCount slots count → HasRowNumbers (length slots) → unwrap_or count 0 ≡ length (valid slots)
 counted_so_far [] None none few = refl
 counted_so_far (s ∷ ss) None none few = absurd (omega (arith, none))
 counted_so_far slots (Some count) is few = is.counted few
@@ -232,3 +239,15 @@ module _ (slots : List Slot) (s : Slot) (so_far : ℕ) (is : HasRowNumbers (leng
     some = omega (arith, length-append slots (s ∷ []));
     counted = λ few. is (omega (arith, few, length-append slots (s ∷ []))) ∙ ap length (sym (valid_push_null slots s none));
   }
+
+pub valid_some : (s : Slot) → is_valid s ≡ true → is_nil s ≡ false
+valid_some Nil e = cc
+valid_some (Num n) e = refl
+valid_some (Bytes b) e = refl
+valid_some (Items i) e = refl
+
+pub valid_none : (s : Slot) → is_valid s ≡ false → is_nil s ≡ true
+valid_none Nil e = refl
+valid_none (Num n) e = cc
+valid_none (Bytes b) e = cc
+valid_none (Items i) e = cc

@@ -274,11 +274,11 @@ fn column_counts<G: FoldGroups>(
     ensures err { IfErr result IsNoMemory }
 {
     let name = column.name().try_clone()?;
-    let counts = if include_nulls {
-        groups.row_counts(column.allocator(), name)?
-    } else {
-        valid_counts(name, column, groups)?
-    };
+    if include_nulls {
+        let counts = groups.row_counts(column.allocator(), name)?;
+        return Ok(counts.into_series());
+    }
+    let counts = valid_counts(name, column, groups)?;
     Ok(counts.into_series())
 }
 

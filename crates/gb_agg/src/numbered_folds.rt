@@ -1,8 +1,7 @@
 //! Folds of columns from the number of each row's group: in one pass, with no list of rows.
 
-ghost use Rattle.std.specs.Prelude.{◌≡◌, ◌∷◌, ℕ, [], length};
+ghost use Rattle.std.specs.Prelude.{◌≡◌, length};
 ghost use Rattle.gb_defs.specs.Groups.{HasRowNumbers};
-ghost use Rattle.gb_defs.specs.Slot.{slot_at};
 ghost use Rattle.gb_agg.specs.Picks.{IsPicked};
 ghost use Rattle.gb_paths.specs.Numbering.{numbered};
 
@@ -93,8 +92,7 @@ impl FoldGroups for RowNumbers {
     }
 
     fn pick_rows<P: RowPick>(&self, alloc: Global, pick: &P) -> PolarsResult<Vec<IdxSize>> {
-        let none = pick.none();
-        let rows = fold_row_numbers(alloc, &PickFold { pick, none }, self)?;
+        let rows = fold_row_numbers(alloc, &PickFold { pick }, self)?;
         Ok(rows)
     }
 }
@@ -103,11 +101,7 @@ impl FoldGroups for RowNumbers {
 #[derive(Drop)]
 struct PickFold<'a, P: RowPick> {
     pick: &'a P,
-    none: usize,
-    ghost behind: { none ≡ length (P.column pick.now).slots },
-    ghost short: { HasRowNumbers none },
-    ghost of_none: { slot_at (P.column pick.now).slots none ≡ P.fold pick.now [] },
-    ghost of_one: { (row : ℕ) → slot_at (P.column pick.now).slots row ≡ P.fold pick.now (row ∷ []) },
+    ghost short: { HasRowNumbers (length (P.column pick.now).slots) },
 }
 
 impl<'a, P: RowPick> RowFold for PickFold<'a, P> {
@@ -118,13 +112,13 @@ impl<'a, P: RowPick> RowFold for PickFold<'a, P> {
     ghost holds = { λ fold. IsPicked (P.column fold.pick.now) (P.fold fold.pick.now) };
 
     fn start(&self) -> IdxSize {
-        self.none as IdxSize
+        self.pick.none() as IdxSize
     }
 
     #[inline]
     fn with_row(&self, state: IdxSize, row: usize) -> IdxSize {
         let picked = state as usize;
-        if picked >= self.none {
+        if picked >= self.pick.none() {
             return row as IdxSize;
         }
         if self.pick.prefers(row, picked) {

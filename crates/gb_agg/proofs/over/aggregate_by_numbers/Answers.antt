@@ -8,7 +8,7 @@ use Rattle.gb_agg.specs.Method.{method_of}
 use Rattle.gb_agg.proofs.over.aggregate_by_numbers.Goals as goal
 
 pub aggregate_numbered-requires-2-clause-rows : goal.aggregate_numbered-requires-2-clause-rows
-aggregate_numbered-requires-2-clause-rows c κs within = rw c.in_ok-whole.ensures.ok c.requires.rows
+aggregate_numbered-requires-2-clause-rows c = rw c.in_ok-whole.ensures.ok c.requires.rows
 
 pub returns-clause-fits : goal.returns-clause-fits
 returns-clause-fits c = rw c.in_ok-whole.ensures.ok at c.aggregate_numbered-2.ensures.fits
