@@ -25,10 +25,8 @@ use gb_values::primitive::NumberValues;
 
 /// A column that may have a least and a greatest slot.
 pub trait GroupExtremes {
-    /// A column of such slots.
-    type Found: SeriesTrait;
-
     // The column.
+    // `SeriesTrait` is no part of it: the checker refuses such a trait for a column of flags.
     ghost column: { Self → ColumnValue };
 
     /// Whether the column's type has a least slot.
@@ -36,18 +34,16 @@ pub trait GroupExtremes {
         ensures { result ≡ has_least (column self.now).dtype };
 
     /// The least slot of each group, or the greatest.
-    fn group_extremes<G: FoldGroups>(&self, greatest: bool, groups: &G) -> PolarsResult<Self::Found>
+    fn group_extremes<G: FoldGroups>(&self, greatest: bool, groups: &G) -> PolarsResult<Self>
         requires ordered { has_least (column self.now).dtype ≡ true }
         requires suits { G.suits groups.now (length (column self.now).slots) }
         requires short { HasRowNumbers (length (column self.now).slots) }
         ensures ok { let lists = lists_in (G.grouping groups.now) in IfOk result (λ found.
-            Self.Found.value found ≡ folded (extreme greatest) (column self.now) lists) }
+            column found ≡ folded (extreme greatest) (column self.now) lists) }
         ensures err { IfErr result IsNoMemory };
 }
 
 impl<T: PolarsNumericType> GroupExtremes for ChunkedArray<NumberValues<T>> {
-    type Found = ChunkedArray<NumberValues<T>>;
-
     ghost column = { λ c. c };
 
     fn has_least(&self) -> bool {
@@ -63,8 +59,6 @@ impl<T: PolarsNumericType> GroupExtremes for ChunkedArray<NumberValues<T>> {
 }
 
 impl<K: LogicalKind> GroupExtremes for Logical<K> {
-    type Found = Logical<K>;
-
     ghost column = { λ c. c };
 
     fn has_least(&self) -> bool {
@@ -82,8 +76,6 @@ impl<K: LogicalKind> GroupExtremes for Logical<K> {
 }
 
 impl GroupExtremes for NullChunked {
-    type Found = NullChunked;
-
     ghost column = { λ c. c };
 
     fn has_least(&self) -> bool {
@@ -99,8 +91,6 @@ impl GroupExtremes for NullChunked {
 }
 
 impl GroupExtremes for BooleanChunked {
-    type Found = BooleanChunked;
-
     ghost column = { λ c. c };
 
     fn has_least(&self) -> bool {
@@ -114,8 +104,6 @@ impl GroupExtremes for BooleanChunked {
 }
 
 impl GroupExtremes for StringChunked {
-    type Found = StringChunked;
-
     ghost column = { λ c. c };
 
     fn has_least(&self) -> bool {
@@ -129,8 +117,6 @@ impl GroupExtremes for StringChunked {
 }
 
 impl GroupExtremes for BinaryChunked {
-    type Found = BinaryChunked;
-
     ghost column = { λ c. c };
 
     fn has_least(&self) -> bool {
@@ -144,8 +130,6 @@ impl GroupExtremes for BinaryChunked {
 }
 
 impl GroupExtremes for BinaryOffsetChunked {
-    type Found = BinaryOffsetChunked;
-
     ghost column = { λ c. c };
 
     fn has_least(&self) -> bool {
@@ -159,8 +143,6 @@ impl GroupExtremes for BinaryOffsetChunked {
 }
 
 impl GroupExtremes for CategoricalChunked {
-    type Found = CategoricalChunked;
-
     ghost column = { λ c. c };
 
     fn has_least(&self) -> bool {
