@@ -13,7 +13,7 @@ use crate::status::Status;
 use gb_base::device::{Failed, Sink, Source};
 
 /// How many bytes are asked for at a time.
-const ROOM: usize = 65536;
+pub(crate) const ROOM: usize = 65536;
 
 // Moves the next bytes of the source behind `bytes`, into the room where they stay, and says how many they
 // were.

@@ -13,7 +13,7 @@ ghost use Rattle.gb_text.specs.Stream.{IsReadBy, IsRefusedInput, IsSomeStreamed,
 ghost use Rattle.gb_text.specs.declared.status.Status.TheVariants as status;
 
 use crate::status::Status;
-use crate::streams::{Progress, fill};
+use crate::streams::{Progress, ROOM, fill};
 use crate::table::blocks::{Reading, finish_all, keep_from, last_line};
 use crate::table::grown::{GrownColumn, append_block};
 use crate::table::header::columns_of_header;
@@ -174,6 +174,18 @@ fn take_last<R: Threads>(
     }
 }
 
+// A room of so many bytes that holds none: the one that is given, where it is as large. A room that grows while
+// other threads work keeps all of them waiting.
+fn emptied(alloc: Global, mut room: Vec<u8>, bytes: usize) -> Result<Vec<u8>, AllocError>
+    ensures { IfOk result (λ room. room.items ≡ []) }
+{
+    if room.capacity() < bytes {
+        return Vec::with_capacity(alloc, bytes);
+    }
+    room.clear();
+    Ok(room)
+}
+
 // Has a thread read the lines that are held, but for the last. False where there is one line alone, or where
 // lines do not read: then all is held again.
 fn send_block<R: Threads>(
@@ -201,8 +213,8 @@ fn send_block<R: Threads>(
         return Err(AllocError);
     };
     let null_word = String::from_str(alloc, reading.null_word)?;
-    let mut next = replace(&mut ahead.spare, Vec::new(alloc));
-    next.clear();
+    let spare = replace(&mut ahead.spare, Vec::new(alloc));
+    let mut next = emptied(alloc, spare, reading.block.min(THREAD_BLOCK) + ROOM)?;
     next.extend_from_slice(&ahead.held[place..])?;
     let text = replace(&mut ahead.held, next);
     let block = Block {
