@@ -52,7 +52,7 @@ returns-in_ok-push_back-in-Ok-start g c = λ bytes q.
     let text : c.replace-text.result.items ≡ held = ap (λ v. v.items) c.replace-text.ensures.value in
     let some : 0 < length (drop place held) = omega (arith, ap length c.deref.ensures.value, c.in-Some.ensures, length-drop place held) in
     let tail = take_all (length held - place) (drop place held) (omega (arith, length-drop place held)) in
-    let before = rw (c.clear.ensures.items, c.deref-2.ensures.value, tail) at c.in_ok-extend_from_slice.ensures.items in
+    let before = rw (c.in_ok-next.ensures, c.deref-2.ensures.value, tail) at c.in_ok-extend_from_slice.ensures.items in
     let next : c.replace-text.new.dest.items ≡ drop place held = ap (λ v. v.items) c.replace-text.ensures.after ∙ before in
     let sent = queue_sent (names_in r.names.now) r.null_word.now (fields_of c.args.header.now) bytes c.args.ahead.now.jobs.items held c.args.columns.now.items q c.in-Ok-start.job block c.in-Ok-start.ensures.ok text some c.in_ok-null_word.ensures.ok c.in-Ok.ensures.ok in
     rw (c.in_ok-push_back-in-Ok-start.ensures.items, next) sent
