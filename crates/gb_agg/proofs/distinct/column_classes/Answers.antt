@@ -31,12 +31,13 @@ returns-in-Numbers-clause-ok g c =
     let made = c.in-Numbers.numbers in
     let is : (grouping_of (Numbers made)).pairs ≡ groups (agree_by (slots ∷ [])) (rows_below (length slots)) = rw c.in-Numbers.is at (c.in_ok-classes.ensures.classes refl) in
     let all : NumberAll true (length slots) (Numbers made) = rw c.in-Numbers.is at c.in_ok-classes.ensures.all in
-    subst (λ (n : ℕ). AreClasses slots n made.of_rows.items) (sym c.len-count.ensures) (classes_numbered slots made is all.many)
+    let count : length made.first.items ≡ c.len-count.result = omega (arith, c.len-count.ensures) in
+    subst (λ (n : ℕ). AreClasses slots n made.of_rows.items) count (classes_numbered slots made is all.many)
 
-pub returns-in-Groups-clause-ok : goal.returns-in-Groups-clause-ok
-returns-in-Groups-clause-ok g c =
+pub returns-in_ok-numbers-in-Groups-clause-ok : goal.returns-in_ok-numbers-in-Groups-clause-ok
+returns-in_ok-numbers-in-Groups-clause-ok g c =
     let slots = (value_of c.args.column.now).slots in
     let groups = groups_of c.in-Groups.groups in
-    let numbers = c.in_ok-numbers.numbers.items in
-    let are = subst (λ (n : ℕ). AreNumbered n (lists_in groups) numbers) c.len.ensures.value c.in_ok-numbers.ensures in
-    subst (λ (n : ℕ). AreClasses slots n numbers) (sym c.len-2.ensures) (numbers_of_classes slots groups.pairs (rw c.in-Groups.is at (c.in_ok-classes.ensures.classes refl)) numbers are)
+    let numbers = c.in_ok-numbers-in-Groups.numbers.items in
+    let are = subst (λ (n : ℕ). AreNumbered n (lists_in groups) numbers) c.len.ensures.value c.in_ok-numbers-in-Groups.ensures in
+    subst (λ (n : ℕ). AreClasses slots n numbers) (sym c.len-in-Groups.ensures) (numbers_of_classes slots groups.pairs (rw c.in-Groups.is at (c.in_ok-classes.ensures.classes refl)) numbers are)
