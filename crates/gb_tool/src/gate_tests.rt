@@ -83,7 +83,10 @@ fn pieces_run_side_by_side(rt: HostRuntime) -> Result<(), Fail> {
         let times = row.times;
         let status = status_through(&rt, rt.alloc(), words, 4096, &mut source, &mut sink, &gate)?;
         assert_eq!(rt; status.code(), 0);
-        assert_eq!(rt; sink.bytes(), b"k:str,v_n_unique:u32\nb,2\na,2\n".as_slice());
+        assert_eq!(rt;
+            sink.bytes(),
+            b"k:str,v_n_unique:u32\nb,2\na,2\n".as_slice()
+        );
         for piece in 0..3 {
             assert_eq!(rt; gate.entered[piece].load(Ordering::SeqCst), times[piece]);
             assert_eq!(rt; gate.left[piece].load(Ordering::SeqCst), times[piece]);
