@@ -156,8 +156,29 @@ impl GroupExtremes for CategoricalChunked {
     }
 }
 
-// The slots at the rows of the least ones, or of the greatest.
+// The slots at the rows of the least ones, or of the greatest. Rows are compared that stand anywhere, so that several
+// chunks are put into one before.
 fn picked_extremes<C: FoldOrder + SeriesTrait, G: FoldGroups>(
+    column: &C,
+    greatest: bool,
+    groups: &G,
+) -> PolarsResult<C>
+    requires column { (c : C) → C.column c ≡ C.value c }
+    requires suits { G.suits groups.now (length (C.value column.now).slots) }
+    requires short { HasRowNumbers (length (C.value column.now).slots) }
+    ensures ok { let lists = lists_in (G.grouping groups.now) in IfOk result (λ found.
+        C.value found ≡ folded (extreme greatest) (C.value column.now) lists) }
+    ensures err { IfErr result IsNoMemory }
+{
+    if column.n_chunks() == 1 {
+        return whole_extremes(column, greatest, groups);
+    }
+    let whole = column.rechunk()?;
+    whole_extremes(&whole, greatest, groups)
+}
+
+// The same of a column in one chunk.
+fn whole_extremes<C: FoldOrder + SeriesTrait, G: FoldGroups>(
     column: &C,
     greatest: bool,
     groups: &G,

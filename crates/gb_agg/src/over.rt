@@ -1,6 +1,6 @@
 //! What columns are aggregated over: groups with their rows, or the number of each row's group.
 
-ghost use Rattle.std.specs.Prelude.{◌≡◌, All, IfErr, IfOk, None, OnOk, length, true};
+ghost use Rattle.std.specs.Prelude.{◌≡◌, All, IfErr, IfOk, None, OnOk, length};
 ghost use Rattle.gb_defs.specs.ColumnType.{ListOf, uint32};
 ghost use Rattle.gb_defs.specs.Groups.{HasRowNumbers, lists_in};
 ghost use Rattle.gb_base.specs.PlSmallStr.{IsNoMemory, name_of};
@@ -8,9 +8,8 @@ ghost use Rattle.gb_base.specs.PolarsError.{Explains};
 ghost use Rattle.gb_series.specs.Series.{value_of};
 ghost use Rattle.gb_agg.specs.Folds.{AreGroupsOf, IsAggregateOf, fold_column, list_of_rows, unfit_of};
 ghost use Rattle.gb_agg.specs.Lists.{HaveNumbers};
-ghost use Rattle.gb_agg.specs.Method.{goes_by_numbers, method_of};
+ghost use Rattle.gb_agg.specs.Method.{method_of};
 ghost use Rattle.gb_agg.specs.Over.{NumberRows, Takes, grouping_over};
-ghost use Rattle.gb_paths.specs.Numbering.{numbered};
 ghost use Rattle.gb_agg.specs.declared.method.GroupByMethod.TheVariants.{Groups};
 
 use crate::aggregate::aggregate_numbered;
@@ -20,7 +19,6 @@ use crate::method::GroupByMethod;
 use gb_base::error::PolarsResult;
 use gb_base::pool::Pool;
 use gb_base::small_str::PlSmallStr;
-use gb_cols::series_trait::SeriesTrait;
 use gb_groups::view::GroupsView;
 use gb_paths::row_numbers::RowNumbers;
 use gb_series::series::Series;
@@ -72,31 +70,6 @@ pub fn aggregate_over<R: Threads + Sync>(
 {
     match over {
         Over::Groups(groups) => aggregate_all(rt, alloc, column, method, groups, pool),
-        Over::Numbers(numbers) => aggregate_by_numbers(column, method, numbers),
+        Over::Numbers(numbers) => aggregate_numbered(column, method, numbers),
     }
-}
-
-// `aggregate_numbered`, where a method that seeks rows of the column has it in one chunk.
-fn aggregate_by_numbers(
-    column: &Series,
-    method: GroupByMethod,
-    numbers: &RowNumbers,
-) -> PolarsResult<Series>
-    requires goes { goes_by_numbers method ≡ true }
-    requires rows { length numbers.now.of_rows.items ≡ length (value_of column.now).slots }
-    ensures fits { OnOk result (unfit_of (method_of method) (value_of column.now) ≡ None) }
-    ensures ok { IfOk result (IsAggregateOf method (value_of column.now) (numbered numbers.now)) }
-    ensures err { IfErr result (λ e.
-        Explains e (unfit_of (method_of method) (value_of column.now))) }
-{
-    if column.n_chunks() == 1 || !seeks_rows(method) {
-        return aggregate_numbered(column, method, numbers);
-    }
-    let whole = column.rechunk()?;
-    aggregate_numbered(&whole, method, numbers)
-}
-
-// Whether a method compares rows that stand anywhere.
-fn seeks_rows(method: GroupByMethod) -> bool {
-    matches!(method, GroupByMethod::Min | GroupByMethod::Max)
 }
