@@ -2,6 +2,7 @@ pub mod ChoiceLemmas
 pub mod ClassLemmas
 pub mod EachLemmas
 pub mod FormLemmas
+pub mod GatherLemmas
 pub mod HashLemmas
 pub mod JoinLemmas
 pub mod KeyFormLemmas

@@ -1,11 +1,10 @@
 -- Numbers of places are numbers of the rows that stand there.
-use Rattle.std.proofs.Common.{◌≡◌, ℕ, zero, suc, cond, ◌<◌, ◌≤◌, Bool, true, false, not, ◌&&◌, ◌||◌, inl, inr, List, [], ◌∷◌, length, get_or, map, filter, nat_lt, All, refl, sym, ◌∙◌, ap, ap₂, arith}
-use Rattle.std.specs.List.{AllByRecursion, list_any, range_with_len}
+use Rattle.std.proofs.Common.{◌≡◌, ℕ, suc, cond, ◌<◌, ◌≤◌, Bool, not, ◌&&◌, ◌||◌, inl, inr, List, [], ◌∷◌, length, get_or, map, filter, nat_lt, All, refl, sym, ◌∙◌, ap, ap₂, arith}
+use Rattle.std.specs.List.{list_any}
 use Rattle.std.specs.List.Sorted.{IsNonDecreasing, IsStrictlyIncreasing}
 use Rattle.std.proofs.lemmas.Bool.{cases_Bool, cases_lt, le-ltb, lt-ltb}
 use Rattle.std.proofs.lemmas.List.{get_or-map, length-map, map-id}
 use Rattle.std.proofs.lemmas.List.Kept.{AllPairs-from_increasing}
-use Rattle.std.proofs.lemmas.Simd.{map-map}
 use Rattle.gb_defs.specs.Classes.{firsts, is_first, rows_below}
 use Rattle.gb_defs.proofs.ClassesLemmas.{all_from_below, any_agree_on, filter_agree_on, rows_below_all}
 use Rattle.gb_paths.specs.Numbering.{AreNumbersOf, number_in}

@@ -1,5 +1,6 @@
 pub mod Classes
 pub mod Each
+pub mod Gathered
 pub mod Hashes
 pub mod Keys
 pub mod Leaders

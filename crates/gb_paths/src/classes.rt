@@ -1,7 +1,7 @@
 //! Rows by their keys: as groups, or as the number of each row's group, from which what is made of a group's
 //! slots one after another is made without a list of its rows.
 
-ghost use Rattle.std.specs.Prelude.{◌≡◌, ◌≢◌, length, map, IfErr, IfOk};
+ghost use Rattle.std.specs.Prelude.{◌≡◌, ◌≢◌, length, map, true, IfErr, IfOk};
 ghost use Rattle.gb_defs.specs.Classes.{rows_below};
 ghost use Rattle.gb_defs.specs.Groups.{HasRowNumbers, first_of};
 ghost use Rattle.gb_defs.specs.Path.{NoValues, kind_of, path_groups};
@@ -13,6 +13,7 @@ ghost use Rattle.gb_paths.specs.Classes.{NumberAll, grouping_of};
 ghost use Rattle.gb_paths.specs.Keys.{byte_rows, rows_of_keys};
 ghost use Rattle.gb_paths.specs.Numbering.{AreNumbersAmong, numbered};
 ghost use Rattle.gb_paths.specs.Tuples.{key_path_value, tuples_on};
+ghost use Rattle.gb_paths.specs.declared.path.KeyPath.{KeyPath};
 
 use crate::into_groups::group_keys;
 use crate::keys::{KeyColumn, Keys, byte_chunks, with_rows};
@@ -131,8 +132,31 @@ pub(crate) fn classes_of_keys<T: Threads + Sync, G: Gate + Sync>(
         let numbers = number_keys(rt, alloc, keys, pool)?;
         return Ok(Classes::Numbers(numbers));
     }
+    if sorted && path == KeyPath::Table {
+        let groups = groups_in_order(rt, alloc, keys, pool)?;
+        return Ok(Classes::Groups(groups));
+    }
     let groups = group_keys(rt, alloc, keys, path, sorted, pool, gate)?;
     Ok(Classes::Groups(groups))
+}
+
+// The groups of rows by keys in any form, in the order of their first rows, made from their numbers by one worker:
+// many groups are numbered sooner than by one table of all.
+fn groups_in_order<T: Threads + Sync>(
+    rt: &T,
+    alloc: Global,
+    keys: &Keys<'_>,
+    pool: &Pool,
+) -> PolarsResult<GroupsType>
+    requires few { HasRowNumbers (rows_of_keys (seed_of pool.now) keys.now).count }
+    ensures ok { let rows = rows_of_keys (seed_of pool.now) keys.now in
+        let parts = partitions_of pool.now in (path : KeyPath) → IfOk result (λ g.
+        groups_of g ≡ path_groups (key_path_value path) rows 0 parts true) }
+    ensures err { IfErr result IsNoMemory }
+{
+    let single = Pool::new(1, 1, 1, 1, pool.seed());
+    let numbers = number_keys(rt, alloc, keys, &single)?;
+    numbers.into_groups(alloc)
 }
 
 // The numbers of the groups of rows by keys in any form.

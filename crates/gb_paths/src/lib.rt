@@ -7,6 +7,7 @@
 pub mod by_keys;
 pub mod categories;
 pub mod classes;
+mod gathered_rows;
 pub mod group_by;
 pub mod into_groups;
 pub mod keys;

@@ -54,8 +54,8 @@ fn pair_words(alloc: Global, front: &[u32], back: &[u32]) -> Result<Vec<u64>, Al
     Ok(words)
 }
 
-// The rows at some places.
-fn rows_at<M: Members>(
+/// The rows at some places.
+pub(crate) fn rows_at<M: Members>(
     alloc: Global,
     members: &M,
     places: &[u32],

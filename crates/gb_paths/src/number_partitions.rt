@@ -9,8 +9,8 @@ ghost use Rattle.gb_paths.specs.Leaders.{ArePartitions, leader_among, led, led_b
 ghost use Rattle.gb_paths.specs.Numbering.{AreNumbersAmong};
 ghost use Rattle.gb_paths.specs.Partitions.{list_joined};
 
+use crate::gathered_rows::number_gathered;
 use crate::leaders::{LedRows, leaders_of, number_leaders, put_leaders};
-use crate::number_rows::number_hashed;
 use crate::row_hashes::{HashChunks, hash_rows_par};
 use crate::row_numbers::RowNumbers;
 use crate::row_partitions::{join_lists, partition_rows};
@@ -19,7 +19,6 @@ use gb_base::nullable_idx::IdxSize;
 use gb_base::pool::Pool;
 use gb_flat::shares::{join_shares, map_shares};
 use gb_groups::groups_idx::IdxVec;
-use gb_groups::row_lists::ListedRows;
 use gb_hash::key_rows::KeyRows;
 use std::alloc::{AllocError, Global};
 use std::thread::Threads;
@@ -135,7 +134,7 @@ fn lead_partition<R: KeyRows>(
     ensures err { IfErr result IsNoMemory }
 {
     let members = join_lists(alloc, shares, partition)?;
-    let numbers = number_hashed(alloc, rows, &ListedRows { rows: &members }, hashes)?;
+    let numbers = number_gathered(alloc, rows, &members, hashes)?;
     let leaders = leaders_of(alloc, &numbers)?;
     Ok(LedRows {
         rows: members,

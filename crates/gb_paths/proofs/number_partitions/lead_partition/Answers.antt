@@ -21,8 +21,8 @@ join_lists-requires-clause-few g c =
     let few = few_members _ _ members in
     omega (arith, few, c.requires.split.listed.hashed.within, c.requires.split.listed.few)
 
-pub number_hashed-requires-clause-members : goal.number_hashed-requires-clause-members
-number_hashed-requires-clause-members g c κs within =
+pub number_gathered-requires-clause-members : goal.number_gathered-requires-clause-members
+number_gathered-requires-clause-members g c κs within =
     rw (c.deref.ensures.value, c.in_ok-members.ensures)
     (joined_at (AreMembers (length c.args.hashes.now)) c.args.partitions c.args.shares.now c.requires.split.listed.members c.args.partition c.requires.inside)
 
