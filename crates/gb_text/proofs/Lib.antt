@@ -10,6 +10,7 @@ pub mod ExtendLemmas
 pub mod HeadLemmas
 pub mod HeaderLemmas
 pub mod LinesLemmas
+pub mod MarkLemmas
 pub mod PartsLemmas
 pub mod PlainLemmas
 pub mod PlainTableLemmas

@@ -1,5 +1,6 @@
 -- Texts whose records are cells between commas and line ends, or between quotes.
-use Rattle.std.specs.Prelude.{◌≡◌, ℕ, ◌<◌, ◌≤◌, Bool, true, List, [], ◌∷◌, ◌++◌, length, drop, Option, Some, if◌then◌else◌, Ok}
+use Rattle.std.specs.Prelude.{◌≡◌, ℕ, ◌<◌, ◌≤◌, Bool, true, leb, List, [], ◌∷◌, ◌++◌, length, drop, map, take, Option, Some, if◌then◌else◌, Ok}
+use Rattle.std.specs.Simd.Lanes.{mask_l}
 use Rattle.std.specs.Str.{IsAscii, all_ascii_digits}
 use Rattle.csv.specs.declared.parser.State.{State}
 use Rattle.csv.specs.declared.parser.State.TheVariants as st
@@ -70,3 +71,10 @@ pub record TakesLine (null_word : List ℕ) (old new : List Building) (text rest
   pub fields : List (List ℕ)
   pub begins : BeginsWith fields text rest
   pub takes : (row : ℕ) → columns_with null_word row old fields ≡ Ok new
+
+-- marks of the bytes in front of a text that may end a cell, the first byte's as the lowest bit
+pub record IsMarked (text : List ℕ) (marks : ℕ) : Type 0 where
+  pub count : ℕ
+  pub few : count ≤ 64
+  pub within : count ≤ length text
+  pub are : marks ≡ mask_l (map (λ b. leb b 44) (take count text))

@@ -1,6 +1,6 @@
 //! Reading the input, and writing the answer whole.
 
-ghost use Rattle.std.specs.Prelude.{◌≡◌, ◌≢◌, ◌≤◌, ◌+◌, ◌-◌, ◌<◌, ◌++◌, [], length, Err, IfErr, IfOk, IfSome, OnErr, OnOk, Some, option_map};
+ghost use Rattle.std.specs.Prelude.{◌≡◌, ◌≢◌, ◌≤◌, ◌+◌, ◌-◌, ◌<◌, ◌++◌, [], length, take, Err, IfErr, IfOk, IfSome, OnErr, OnOk, Some, option_map};
 ghost use Rattle.std.specs.Bool.{OnFalse, OnTrue};
 ghost use Rattle.std.specs.Str.{IsAscii};
 ghost use Rattle.gb_base.specs.Device.{Rose};
@@ -48,6 +48,21 @@ pub struct Progress {
     pub ascii: bool,
 }
 
+// Whether bytes are ASCII, where it is known whether those up to a place are.
+fn are_ascii(known: bool, bytes: &[u8], place: usize) -> bool
+    requires place { place ≤ length bytes.now }
+    requires known { OnTrue known (IsAscii (take place bytes.now)) }
+    ensures { OnTrue result (IsAscii bytes.now) }
+{
+    if !known {
+        return false;
+    }
+    if !bytes[place..].is_ascii() {
+        return false;
+    }
+    true
+}
+
 /// Moves the next bytes of the source behind those that are held, until these are at least so many or the
 /// source has ended. Of the input so many bytes were read before, and at most `limit` may be.
 pub fn fill<S: Source>(
@@ -64,21 +79,25 @@ pub fn fill<S: Source>(
     ensures enough { IfOk result (λ p. OnFalse p.ended (enough ≤ length held.new.items)) }
 {
     let mut now = read;
+    // Each piece is looked at while it is near.
+    let mut ascii = held.is_ascii();
     // The label names the loop in its proof.
     'pieces: for _ in 0..u64::MAX {
-        if held.len() >= enough {
+        let place = held.len();
+        if place >= enough {
             return Ok(Progress {
                 read: now,
                 ended: false,
-                ascii: held.is_ascii(),
+                ascii,
             });
         }
         let count = read_piece(source, held)?;
+        ascii = are_ascii(ascii, held, place);
         if count == 0 {
             return Ok(Progress {
                 read: now,
                 ended: true,
-                ascii: held.is_ascii(),
+                ascii,
             });
         }
         now += count as u64;

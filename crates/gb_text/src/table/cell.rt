@@ -1,7 +1,8 @@
 //! The cell in front of a text, as `csv` reads it.
 
-ghost use Rattle.std.specs.Prelude.{◌≡◌, ℕ, ◌<◌, ◌≤◌, ◌∷◌, true, length, slice_index, IfOk, IfSome};
-ghost use Rattle.gb_text.specs.Plain.{AreFewDigits, IsClosed, IsCut, IsReturned};
+ghost use Rattle.std.specs.Bool.{OnTrue};
+ghost use Rattle.std.specs.Prelude.{◌≡◌, ℕ, ◌<◌, ◌≤◌, ◌∷◌, true, length, slice_index, take, IfOk, IfSome};
+ghost use Rattle.gb_text.specs.Plain.{AreFewDigits, IsClosed, IsCut, IsMarked, IsReturned};
 
 use std::alloc::AllocError;
 use std::simd::prelude::*;
@@ -86,25 +87,54 @@ fn count_low(text: &[u8], bound: u8) -> usize
     marks.trailing_zeros() as usize
 }
 
-/// The cell of at most 15 digits in front of a text, what stands behind its end, and whether its record
-/// ends there. None where no such cell is followed by a comma or a line feed, and near the text's end.
+/// Whether a text begins with so many digits, 1 to 15. False near its end.
 #[inline(always)]
-pub fn digits_cell(text: &[u8]) -> Option<(&[u8], &[u8], bool)>
-    ensures cut { IfSome result (λ cut. IsCut text.now cut.0.now cut.1.now cut.2) }
-    ensures digits { IfSome result (λ cut. AreFewDigits cut.0.now) }
+pub fn begins_with_digits(text: &[u8], count: usize) -> bool
+    ensures { OnTrue result (AreFewDigits (take count text.now)) }
 {
-    if text.len() < 16 {
+    if text.len() < 16 || count == 0 || count > 15 {
+        return false;
+    }
+    if count_high(text, b'/').min(count_low(text, b':')) < count {
+        return false;
+    }
+    true
+}
+
+/// Marks for the next bytes of a text that may end a cell, the first byte's as the lowest bit: those at hand, and where
+/// none is left those of the next 64 bytes. None near the text's end.
+#[inline(always)]
+pub fn marks_ahead(text: &[u8], marks: u64) -> u64
+    requires { IsMarked text.now marks }
+    ensures { IsMarked text.now result }
+{
+    if marks != 0 || text.len() < 64 {
+        return marks;
+    }
+    u8x64::from_slice(text)
+        .simd_le(u8x64::splat(b','))
+        .to_bitmask()
+}
+
+/// The cell in front of a text up to its first mark, what stands behind its end, whether its record ends there, and the
+/// marks of what stands there. None where no mark is at hand, or that is of another byte than a comma or a line feed.
+#[inline(always)]
+pub fn marked_cell(text: &[u8], marks: u64) -> Option<(&[u8], &[u8], bool, u64)>
+    requires { IsMarked text.now marks }
+    ensures cut { IfSome result (λ cut. IsCut text.now cut.0.now cut.1.now cut.2) }
+    ensures cell { IfSome result (λ cut. cut.0.now ≡ take (length cut.0.now) text.now) }
+    ensures marks { IfSome result (λ cut. IsMarked cut.1.now cut.3) }
+{
+    if marks == 0 {
         return None;
     }
-    let count = count_high(text, b'/').min(count_low(text, b':'));
-    if count == 0 || count == 16 {
-        return None;
-    }
+    let count = marks.trailing_zeros() as usize;
+    let left = marks >> count >> 1;
     if text[count] == b',' {
-        return Some((&text[..count], &text[count + 1..], false));
+        return Some((&text[..count], &text[count + 1..], false, left));
     }
     if text[count] == b'\n' {
-        return Some((&text[..count], &text[count + 1..], true));
+        return Some((&text[..count], &text[count + 1..], true, left));
     }
     None
 }

@@ -134,6 +134,7 @@ pub fn read_lines(
     let behind = text.len() - to;
     let mut room = Vec::new(alloc);
     let mut left = &text[from..];
+    let mut marks = 0;
     for _ in 0..u64::MAX {
         if left.len() == behind {
             return Ok(Some(columns));
@@ -143,12 +144,15 @@ pub fn read_lines(
         }
         if is_line_end(left[0]) {
             left = &left[1..];
+            marks = 0;
             continue;
         }
-        let Some(rest) = push_line(&mut columns, left, ascii, null_word, &mut room)? else {
+        let found = push_line(&mut columns, left, marks, ascii, null_word, &mut room)?;
+        let Some((rest, next)) = found else {
             return Ok(None);
         };
         left = rest;
+        marks = next;
     }
     Err(AllocError)
 }

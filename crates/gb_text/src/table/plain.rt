@@ -10,14 +10,14 @@ ghost use Rattle.csv.specs.Records.{fields_of};
 ghost use Rattle.gb_defs.specs.Column.{rechunked};
 ghost use Rattle.gb_defs.specs.Table.{table};
 ghost use Rattle.gb_text.specs.Asked.{asked_table, names_in};
-ghost use Rattle.gb_text.specs.Building.{IsRoomy};
-ghost use Rattle.gb_text.specs.Plain.{BeginsWith, TakesFront, TakesLine};
+ghost use Rattle.gb_text.specs.Building.{BuildsCell, IsRoomy};
+ghost use Rattle.gb_text.specs.Plain.{BeginsWith, IsMarked, TakesFront, TakesLine};
 ghost use Rattle.gb_text.specs.Refusal.{IsRefusedTable};
 
 use crate::status::TableError;
 use crate::table::blocks::Reading;
 use crate::table::builder::ColumnBuilder;
-use crate::table::cell::{cell_of, digits_cell};
+use crate::table::cell::{begins_with_digits, cell_of, marked_cell, marks_ahead};
 use crate::table::frame_of;
 use crate::table::grown::grown_columns;
 use crate::table::lines::Lines;
@@ -46,39 +46,62 @@ pub fn plain_header(alloc: Global, text: &[u8]) -> Result<Option<(ByteRecord, &[
     Err(AllocError)
 }
 
-// Puts the cell in front of a text at the end of a column, and gives the text behind it, and whether its
-// record ends there. None where it is not plain or does not read. Digits are not looked at twice where a
-// column passes them, nor are texts.
+// Puts a cell at the end of a column. False where it does not read. A text is not looked at where a column passes it.
+#[inline(always)]
+fn push_cell(
+    column: &mut ColumnBuilder,
+    cell: &[u8],
+    ascii: bool,
+    null_word: &str,
+) -> Result<bool, AllocError>
+    requires room { IsRoomy column.old }
+    requires ascii { ascii ≡ true → IsAscii cell.now }
+    ensures { IfOk result (λ took. OnTrue took
+        (BuildsCell null_word.now column.old column.new cell.now true)) }
+{
+    if ascii && column.passes_texts() {
+        column.pass_text();
+        return Ok(true);
+    }
+    column.push_cell(cell, ascii, null_word)
+}
+
+// Puts the cell in front of a text at the end of a column, and gives the text behind it, whether its record ends
+// there, and the marks of that text. None where it is not plain or does not read. Digits are not read where a
+// column passes them.
 #[inline(always)]
 fn push_front<'a>(
     column: &mut ColumnBuilder,
     text: &'a [u8],
+    marks: u64,
     ascii: bool,
     null_word: &str,
     room: &mut Vec<u8>,
-) -> Result<Option<(&'a [u8], bool)>, AllocError>
+) -> Result<Option<(&'a [u8], bool, u64)>, AllocError>
     requires room { IsRoomy column.old }
     requires ascii { ascii ≡ true → IsAscii text.now }
-    ensures { IfOk result (λ found. IfSome found (λ end.
+    requires marks { IsMarked text.now marks }
+    ensures front { IfOk result (λ found. IfSome found (λ end.
         TakesFront null_word.now column.old column.new text.now end.0.now end.1)) }
+    ensures marks { IfOk result (λ found. IfSome found (λ end. IsMarked end.0.now end.2)) }
 {
-    if column.passes_digits() {
-        if let Some((_cell, rest, last)) = digits_cell(text) {
+    if let Some((cell, rest, last, left)) = marked_cell(text, marks_ahead(text, marks)) {
+        if column.passes_digits() && begins_with_digits(text, cell.len()) {
             column.pass_digits();
-            return Ok(Some((rest, last)));
+            return Ok(Some((rest, last, left)));
         }
+        if push_cell(column, cell, ascii, null_word)? {
+            return Ok(Some((rest, last, left)));
+        }
+        return Ok(None);
     }
     let Some((cell, rest, last)) = cell_of(text, room)? else {
         return Ok(None);
     };
-    if ascii && column.passes_texts() {
-        column.pass_text();
-        return Ok(Some((rest, last)));
+    if push_cell(column, cell, ascii, null_word)? {
+        return Ok(Some((rest, last, 0)));
     }
-    if !column.push_cell(cell, ascii, null_word)? {
-        return Ok(None);
-    }
-    Ok(Some((rest, last)))
+    Ok(None)
 }
 
 /// Puts the cells of the record in front of a text at the ends of the columns, and gives the text behind
@@ -87,15 +110,18 @@ fn push_front<'a>(
 pub fn push_line<'a>(
     columns: &mut [ColumnBuilder],
     text: &'a [u8],
+    mut marks: u64,
     ascii: bool,
     null_word: &str,
     room: &mut Vec<u8>,
-) -> Result<Option<&'a [u8]>, AllocError>
+) -> Result<Option<(&'a [u8], u64)>, AllocError>
     requires room { All IsRoomy columns.old }
     requires ascii { ascii ≡ true → IsAscii text.now }
-    ensures ok { IfOk result (λ found. IfSome found (λ rest.
-        TakesLine null_word.now columns.old columns.new text.now rest.now)) }
-    ensures ascii { IfOk result (λ found. IfSome found (λ rest. ascii ≡ true → IsAscii rest.now)) }
+    requires marks { IsMarked text.now marks }
+    ensures ok { IfOk result (λ found. IfSome found (λ end.
+        TakesLine null_word.now columns.old columns.new text.now end.0.now)) }
+    ensures ascii { IfOk result (λ found. IfSome found (λ end. ascii ≡ true → IsAscii end.0.now)) }
+    ensures marks { IfOk result (λ found. IfSome found (λ end. IsMarked end.0.now end.1)) }
 {
     let mut left = text;
     let mut ended = false;
@@ -103,16 +129,18 @@ pub fn push_line<'a>(
         if ended {
             return Ok(None);
         }
-        let Some((rest, last)) = push_front(column, left, ascii, null_word, room)? else {
+        let found = push_front(column, left, marks, ascii, null_word, room)?;
+        let Some((rest, last, next)) = found else {
             return Ok(None);
         };
         left = rest;
         ended = last;
+        marks = next;
     }
     if !ended {
         return Ok(None);
     }
-    Ok(Some(left))
+    Ok(Some((left, marks)))
 }
 
 /// Whether a line end stands where a record would begin: it is passed over.

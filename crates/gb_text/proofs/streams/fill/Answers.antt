@@ -8,17 +8,18 @@ pub pieces-init : goal.pieces-init
 pieces-init g c = record {
   within = omega (arith, c.requires.within);
   filled = filled_none c.args.read c.args.held.now.items (g.S.Source.left c.args.source.now);
+  ascii = search rules;
   kept = omega arith;
 }
 
-pub returns-then-len-enough-clause-filled : goal.returns-then-len-enough-clause-filled
-returns-then-len-enough-clause-filled g c =
+pub returns-then-place-enough-clause-filled : goal.returns-then-place-enough-clause-filled
+returns-then-place-enough-clause-filled g c =
     let s = c.pieces.invariant in
     record {
       filled = s.filled;
       within = s.within;
       ended = search rules;
-      ascii = search rules;
+      ascii = s.ascii;
       err = search rules;
       taken = λ n. filled_taken _ _ _ _ _ _ s.filled c.args.limit c.requires.within (omega (arith, s.within));
       kept = s.kept;
@@ -46,7 +47,7 @@ returns-then-count-eq0-clause-filled g c =
       filled = search rules;
       within = s.within;
       ended = search rules;
-      ascii = search rules;
+      ascii = rw c.deref-in-pieces.ensures.value at c.are_ascii-ascii.ensures;
       err = search rules;
       taken = λ n. filled_taken _ _ _ _ _ _ f c.args.limit c.requires.within (omega (arith, s.within, c.in_ok-count.ensures.fits));
       kept = omega (arith, s.kept, c.read_piece.ensures.kept);
@@ -58,5 +59,6 @@ pieces-preserved g c =
     record {
       within = omega (arith, c.if-now-limit.false);
       filled = filled_more _ _ _ _ _ _ s.filled c.in_ok-count.count _ _ c.in_ok-count.ensures.moved;
+      ascii = rw c.deref-in-pieces.ensures.value at c.are_ascii-ascii.ensures;
       kept = omega (arith, s.kept, c.read_piece.ensures.kept);
     }

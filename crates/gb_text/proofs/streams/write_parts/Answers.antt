@@ -1,4 +1,4 @@
-use Rattle.std.proofs.Common.{◌≡◌, ◌∙◌, List, Result, Ok, Err, OnErr, Vec, ap, subst, sym}
+use Rattle.std.proofs.Common.{◌∙◌, Result, Ok, Err, OnErr, Vec, ap, subst}
 use Rattle.gb_text.specs.Moved.{HoldsPart}
 use Rattle.gb_text.proofs.DeviceLemmas.{part_of_parts}
 use Rattle.gb_text.proofs.streams.write_parts.Goals as goal

@@ -16,6 +16,7 @@ loop-column-init c = record {
   roomy = λ k d low lt. c.requires.room k d lt;
   is_ascii = c.requires.ascii;
   behind = record { count = 0; is = refl };
+  marked = c.requires.marks;
 }
 
 pub push_front-requires-clause-room : goal.push_front-requires-clause-room
@@ -31,7 +32,7 @@ loop-column-preserved c =
     let column = get_or now c.loop-column.column-index c.column-item.result in
     let lt : c.loop-column.column-index < length now = omega arith in
     let read = rw c.if-ended.false at s.read in
-    let front = rw c.in-Some.is at c.in_ok-rest.ensures in
+    let front = rw c.in-Some.is at c.in_ok-found.ensures.front in
     let cut = front.cut in
     record {
       done = s.done ++ front.cell ∷ [];
@@ -47,6 +48,7 @@ loop-column-preserved c =
           rw (get_or-set_other now c.loop-column.column-index k c.push_front.new.column d other) (s.roomy k d (omega (arith, low)) below);
       is_ascii = λ ascii. rest_ascii c.loop-column.left.now front.cell c.in-Some.rest.now c.in-Some.last cut (s.is_ascii ascii);
       behind = behind_more c.args.text.now c.loop-column.left.now c.in-Some.rest.now s.behind cut.behind;
+      marked = rw c.in-Some.is at c.in_ok-found.ensures.marks;
     }
 
 pub returns-clause-ok : goal.returns-clause-ok
@@ -61,3 +63,9 @@ returns-clause-ok c =
 
 pub returns-clause-ascii : goal.returns-clause-ascii
 returns-clause-ascii c = c.loop-column.invariant.is_ascii
+
+pub push_front-requires-clause-marks : goal.push_front-requires-clause-marks
+push_front-requires-clause-marks c = c.loop-column.invariant.marked
+
+pub returns-clause-marks : goal.returns-clause-marks
+returns-clause-marks c = c.loop-column.invariant.marked

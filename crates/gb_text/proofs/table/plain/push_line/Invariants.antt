@@ -6,12 +6,12 @@ use Rattle.csv.specs.declared.parser.State.TheVariants as st
 use Rattle.csv.specs.Machine.{next_record}
 use Rattle.csv.specs.Reading.{default_config}
 use Rattle.gb_text.specs.Building.{Building, IsRoomy}
-use Rattle.gb_text.specs.Plain.{GoesOn, IsBehind, after_cell}
+use Rattle.gb_text.specs.Plain.{GoesOn, IsBehind, IsMarked, after_cell}
 use Rattle.gb_text.proofs.PushLemmas.{IsPassing}
 use Rattle.gb_text.proofs.table.plain.push_line.Given as goal
 
 -- the columns before a place have the cells that were cut so far
-pub record IsMidway (null_word : List ℕ) (initial : List Building) (text : List ℕ) (ascii : Bool) (place : ℕ) (columns : List Building) (rest : List ℕ) (ended : Bool) : Type 0 where
+pub record IsMidway (null_word : List ℕ) (initial : List Building) (text : List ℕ) (ascii : Bool) (place : ℕ) (columns : List Building) (rest : List ℕ) (ended : Bool) (marks : ℕ) : Type 0 where
   pub done : List (List ℕ)
   pub state : State
   pub left : List ℕ
@@ -21,6 +21,7 @@ pub record IsMidway (null_word : List ℕ) (initial : List Building) (text : Lis
   pub roomy : AllWithin IsRoomy columns place (length columns)
   pub is_ascii : ascii ≡ true → IsAscii rest
   pub behind : IsBehind text rest
+  pub marked : IsMarked rest marks
 
 abbrev pub invariant-loop-column : goal.invariant-loop-column
-invariant-loop-column l = IsMidway l.null_word l.initial.columns l.fn.text l.ascii l.column-index l.columns l.left l.ended
+invariant-loop-column l = IsMidway l.null_word l.initial.columns l.fn.text l.ascii l.column-index l.columns l.left l.ended l.marks
