@@ -1,9 +1,11 @@
 //! The columns of an answer: the keys at the first rows of groups, and the aggregates over their rows.
 
 ghost use Rattle.std.specs.Prelude.{◌≡◌, ◌+◌, ◌≤◌, All, drop, length, take, None, false, is_none, map, IfErr, IfOk, OnOk};
+ghost use Rattle.std.specs.Bool.{OnTrue};
 ghost use Rattle.gb_base.specs.PlSmallStr.{IsNoMemory, name_of};
 ghost use Rattle.gb_base.specs.PolarsError.{Explains};
 ghost use Rattle.gb_defs.specs.Answer.{aggregated};
+ghost use Rattle.gb_defs.specs.Classes.{rows_below};
 ghost use Rattle.gb_defs.specs.Column.{content, find_column, taken};
 ghost use Rattle.gb_defs.specs.Fault.{missing_fault, unfit_fault};
 ghost use Rattle.gb_defs.specs.Groups.{lists_in};
@@ -30,6 +32,32 @@ use std::thread::Threads;
 // For fewer rows no thread is started to take keys at them.
 const SHARE_ROWS: usize = 65_536;
 
+// Whether rows are all rows of so many as they are, in order.
+fn are_all(rows: &[IdxSize]) -> bool
+    ensures { OnTrue result (rows.now ≡ rows_below (length rows.now)) }
+{
+    for place in 0..rows.len() {
+        if rows[place] as usize != place {
+            return false;
+        }
+    }
+    true
+}
+
+// A key at some rows. Where they are all of them it is copied chunk by chunk, and no row is looked at.
+fn key_at(key: &Series, rows: &[IdxSize], all: bool) -> PolarsResult<Series>
+    requires rows { HasRows rows.now (value_of key.now) }
+    requires all { OnTrue all (rows.now ≡ rows_below (length rows.now)) }
+    ensures ok { IfOk result (λ column.
+        content (value_of column) ≡ content (taken rows.now (value_of key.now))) }
+    ensures err { IfErr result IsNoMemory }
+{
+    if all && rows.len() == key.len() {
+        return key.rechunk();
+    }
+    key.take(rows)
+}
+
 // The keys at some rows.
 pub(crate) fn keys_at(
     alloc: Global,
@@ -41,9 +69,10 @@ pub(crate) fn keys_at(
         IfOk result (λ columns. contents_of columns.items ≡ taken) }
     ensures err { IfErr result IsNoMemory }
 {
+    let all = are_all(rows);
     let mut columns = Vec::with_capacity(alloc, keys.len())?;
     for key in keys {
-        columns.push(key.take(rows)?)?;
+        columns.push(key_at(key, rows, all)?)?;
     }
     Ok(columns)
 }

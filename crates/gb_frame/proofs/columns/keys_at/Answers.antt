@@ -4,8 +4,8 @@ use Rattle.gb_series.specs.Series.{value_of}
 use Rattle.gb_frame.specs.Grouping.{HasRows}
 use Rattle.gb_frame.proofs.columns.keys_at.Goals as goal
 
-pub take-requires : goal.take-requires
-take-requires c =
+pub key_at-requires-clause-rows : goal.key_at-requires-clause-rows
+key_at-requires-clause-rows c =
     let keys = c.args.keys.now in
     let i = c.loop-key.key-index in
     let key = c.key-item.result in
