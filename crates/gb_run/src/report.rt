@@ -45,7 +45,7 @@ fn pool_of(options: &ToolOptions, salt: u64) -> Pool
 }
 
 // How many bytes of the input are held at a time.
-const BLOCK_BYTES: usize = 8_388_608;
+const BLOCK_BYTES: usize = 1_048_576;
 
 /// The text of an answer, and the line of its trace: empty where none is asked for.
 #[derive(Drop)]
@@ -67,9 +67,9 @@ pub fn report<R: Threads + Sync, S: Source, G: Gate + Sync>(
 ) -> Result<Answer, Status>
     requires limit { limits.input_bytes ≤ 4294967295 }
     requires some { HasKeys (request_of request.now) }
-    ensures ok { IfOk result (λ answer.
+    ensures ok { let asked = request_of request.now in IfOk result (λ answer.
         HasReadAll limits.input_bytes (S.left source.old) (S.left source.new) (λ bytes.
-        IsAnswerTo (request_of request.now) bytes (joined answer.text.items) (string_bytes answer.line))) }
+        IsAnswerTo asked bytes (joined answer.text.items) (string_bytes answer.line))) }
     ensures err { IfErr result (IsRefusedText (outcome (request_of request.now))
         (S.faults source.old) (S.faults source.new) limits.input_bytes
         (S.left source.old) (S.left source.new)) }

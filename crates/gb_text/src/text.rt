@@ -23,6 +23,9 @@ use std::thread::Threads;
 // For fewer rows a worker no thread is started.
 const SHARE_ROWS: usize = 16_384;
 
+// So many rows tell how many bytes the rows of a part take.
+const SAMPLE_ROWS: usize = 1024;
+
 // One field more of the record.
 fn put_field(writer: &mut Writer<Vec<u8>>, field: &[u8]) -> Result<(), AllocError>
     ensures { OnOk result (TakesField writer.old writer.new field.now) }
@@ -131,11 +134,12 @@ fn put_rows(
     Ok(())
 }
 
-// A writer to which nothing was written.
-fn fresh_writer(alloc: Global) -> Writer<Vec<u8>>
-    ensures { HasBegun result [] [] }
+// A writer to which nothing was written, with room for so many bytes.
+fn fresh_writer(alloc: Global, bytes: usize) -> Result<Writer<Vec<u8>>, AllocError>
+    ensures { IfOk result (λ writer. HasBegun writer [] []) }
 {
-    WriterBuilder::new().from_writer(Vec::new(alloc))
+    let room = Vec::with_capacity(alloc, bytes)?;
+    Ok(WriterBuilder::new().from_writer(room))
 }
 
 // What was written.
@@ -148,6 +152,36 @@ fn written(writer: Writer<Vec<u8>>) -> PolarsResult<Vec<u8>>
         Ok(text) => Ok(text),
         Err(_) => Err(PolarsError::NoMemory),
     }
+}
+
+// How many bytes the rows of cells of a range likely take, by the first of them: text that grows is moved again and
+// again.
+fn likely_bytes(
+    alloc: Global,
+    columns: &[Series],
+    range: (usize, usize),
+    null_word: &str,
+) -> PolarsResult<usize>
+    requires rows { All (λ column. range.0 + range.1 ≤ length (value_of column).slots) columns.now }
+    requires few { range.0 + range.1 < 2 ^ 64 }
+    ensures err { IfErr result IsNoMemory }
+{
+    let (first, count) = range;
+    if count < SAMPLE_ROWS {
+        return Ok(0);
+    }
+    let mut writer = fresh_writer(alloc, 0)?;
+    let mut cell = Vec::new(alloc);
+    put_rows(
+        &mut writer,
+        columns,
+        (first, SAMPLE_ROWS),
+        null_word,
+        &mut cell,
+    )?;
+    let text = written(writer)?;
+    let each = text.len() / SAMPLE_ROWS + 2;
+    Ok(each.saturating_mul(count))
 }
 
 // The row of header fields, and the rows of cells of a range.
@@ -163,7 +197,8 @@ fn text_from_header(
         t.items ≡ header_line contents ++ rows_text null_word.now contents range) }
     ensures err { IfErr result IsNoMemory }
 {
-    let mut writer = fresh_writer(alloc);
+    let bytes = likely_bytes(alloc, columns, range, null_word)?;
+    let mut writer = fresh_writer(alloc, bytes)?;
     put_header(alloc, &mut writer, columns)?;
     let mut cell = Vec::new(alloc);
     put_rows(&mut writer, columns, range, null_word, &mut cell)?;
@@ -184,7 +219,8 @@ fn text_of_rows(
         IfOk result (λ t. t.items ≡ rows_text null_word.now contents range) }
     ensures err { IfErr result IsNoMemory }
 {
-    let mut writer = fresh_writer(alloc);
+    let bytes = likely_bytes(alloc, columns, range, null_word)?;
+    let mut writer = fresh_writer(alloc, bytes)?;
     let mut cell = Vec::new(alloc);
     put_rows(&mut writer, columns, range, null_word, &mut cell)?;
     let text = written(writer)?;
