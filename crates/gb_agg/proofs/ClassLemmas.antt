@@ -21,8 +21,7 @@ use Rattle.gb_groups.specs.Numbers.{lists_by}
 use Rattle.gb_paths.specs.Numbering as paths
 use Rattle.gb_paths.specs.Numbers.{pairs_by}
 use Rattle.gb_paths.specs.declared.row_numbers.RowNumbers.{RowNumbers}
-use Rattle.gb_paths.proofs.NumberingLemmas.{numbers_told}
-use Rattle.gb_paths.proofs.PairLemmas.{one_number}
+use Rattle.gb_paths.proofs.NumberingLemmas.{numbers_told, one_number}
 use Rattle.gb_paths.proofs.PartLemmas.{range_rises}
 use Rattle.gb_agg.specs.Distinct.{AreClasses, AreNumbered, is_listed, number_from, numbered}
 

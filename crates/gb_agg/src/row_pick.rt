@@ -36,7 +36,8 @@ pub trait RowPick {
     fn none(&self) -> usize
         ensures behind { result ≡ length (column self.now).slots }
         ensures of_none { slot_at (column self.now).slots result ≡ fold self.now [] }
-        ensures of_one { (row : ℕ) → slot_at (column self.now).slots row ≡ fold self.now (row ∷ []) };
+        ensures of_one { (row : ℕ)
+            → slot_at (column self.now).slots row ≡ fold self.now (row ∷ []) };
 
     /// Whether a row behind some rows is picked in the place of the one that was picked of them.
     fn prefers(&self, row: usize, picked: usize) -> bool

@@ -1,6 +1,5 @@
 pub mod ChoiceLemmas
 pub mod ClassLemmas
-pub mod EachLemmas
 pub mod FormLemmas
 pub mod GatherLemmas
 pub mod HashLemmas
@@ -11,7 +10,7 @@ pub mod LeaderLemmas
 pub mod MemberLemmas
 pub mod NumberingLemmas
 pub mod OrderLemmas
-pub mod PairLemmas
+pub mod PackLemmas
 pub mod PartLemmas
 pub mod PartitionLemmas
 pub mod PlaceLemmas
@@ -21,3 +20,4 @@ pub mod RunLemmas
 pub mod SeveralLemmas
 pub mod TextLemmas
 pub mod TupleLemmas
+pub mod WordLemmas

@@ -416,6 +416,31 @@ module _ (agree : ℕ → ℕ → Bool) (equiv : IsEquivalence agree) (rows : Li
   pub numbers_known : (first numbers : List ℕ) → AreNumbersOf agree rows first numbers → AllByRecursion (λ number. number < length first) numbers
   numbers_known first numbers are = rw (are.numbers_are, are.first_is) (known_all (firsts agree rows) rows all_found)
 
+-- ---- rows have one number where they agree
+
+module _ (agree : ℕ → ℕ → Bool) (equiv : IsEquivalence agree) (rows first numbers : List ℕ) (up : IsStrictlyIncreasing rows) (are : AreNumbersOf agree rows first numbers) where
+  number_read : (i : ℕ) → i < length rows → get_or numbers i 0 ≡ number_in agree first (get_or rows i 0)
+  number_read i lt = ap (λ ns. get_or ns i 0) are.numbers_are ∙ get_or-map (number_in agree first) rows i 0 0 lt
+
+  row_found : (i : ℕ) → i < length rows → list_any (agree (get_or rows i 0)) first ≡ true
+  row_found i lt = rw are.first_is (All-from_recursion (λ row. list_any (agree row) (firsts agree rows) ≡ true) rows (all_found agree equiv rows up) i 0 lt)
+
+  pub one_number : (i j : ℕ) → i < length rows → j < length rows → (get_or numbers i 0 == get_or numbers j 0) ≡ agree (get_or rows i 0) (get_or rows j 0)
+  one_number i j lt lt' =
+      let x = get_or rows i 0 in
+      let y = get_or rows j 0 in
+      rw (number_read i lt, number_read j lt') (elim (cases_Bool (agree x y)) [
+        | inl yes' ↦ eq-eqb _ _ (same_number agree equiv x y yes' first) ∙ sym yes'
+        | inr no' ↦ elim (cases_Bool (number_in agree first x == number_in agree first y)) [
+          | inl e ↦
+              let same : number_in agree first x ≡ number_in agree first y = eqb-true _ _ e in
+              let mine : agree x (get_or first (number_in agree first y) 0) ≡ true = rw same at ((number_finds agree equiv first x (row_found i lt)).1) in
+              let its = (number_finds agree equiv first y (row_found j lt')).1 in
+              let here : agree x y ≡ true = equiv.symm x y ∙ equiv.congr y (get_or first (number_in agree first y) 0) x its ∙ equiv.symm (get_or first (number_in agree first y) 0) x ∙ mine in cc
+          | inr e ↦ e ∙ sym no'
+        ]
+      ])
+
 -- ---- numbers of some rows that agree alike
 
 module _ (a b : ℕ → ℕ → Bool) (n : ℕ) (alike : (i j : ℕ) → i < n → j < n → a i j ≡ b i j) (rows : List ℕ) (below : AllByRecursion (λ row. row < n) rows) where

@@ -29,8 +29,7 @@ use Rattle.gb_series.specs.declared.series.Series.{Series}
 use Rattle.gb_rows.specs.Lent.{keys_in}
 use Rattle.gb_rows.specs.Rows.{AreOfOneLength, row_slots}
 use Rattle.gb_rows.specs.Told.{AreToldByRows}
-use Rattle.gb_paths.specs.Each.{HasValues}
-use Rattle.gb_paths.specs.Keys.{null_rows}
+use Rattle.gb_paths.specs.Keys.{HasValues, null_rows}
 use Rattle.gb_defs.specs.Notes.{has_values, is_valued, path_by_keys, valued_keys}
 use Rattle.gb_paths.specs.Numbering.{AreNumbersUnder, numbered}
 use Rattle.gb_paths.specs.declared.path.KeyPath.{KeyPath}

@@ -69,6 +69,10 @@ pub record AreCodesOf (column codes : ColumnValue) (count : ℕ) : Type 0 where
 abbrev pub null_rows : ℕ → Rows
 null_rows count = rows_of_slots w64 0 seed_mix (replicate count slot.Nil)
 
+-- a column has values, and so keys
+abbrev pub HasValues : ColumnValue → Type 0
+HasValues column = kind_of column.dtype ≢ NoValues
+
 -- a column of a type without values: every slot of it is null
 pub record HasNoValues (column : ColumnValue) : Type 0 where
   pub kind : kind_of column.dtype ≡ NoValues

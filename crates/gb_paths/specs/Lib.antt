@@ -1,11 +1,12 @@
 pub mod Classes
-pub mod Each
 pub mod Gathered
 pub mod Hashes
 pub mod Keys
 pub mod Leaders
 pub mod Numbering
 pub mod Numbers
+pub mod Packed
 pub mod Partitions
 pub mod PlainWords
 pub mod Tuples
+pub mod Words

@@ -1,5 +1,5 @@
 -- The number of each row's group.
-use Rattle.std.specs.Prelude.{◌≡◌, ℕ, suc, ◌+◌, ◌*◌, ◌<◌, ◌≤◌, Bool, true, ◌&&◌, List, [], ◌∷◌, ◌++◌, if◌then◌else◌, drop, get_or, length, map}
+use Rattle.std.specs.Prelude.{◌≡◌, ℕ, suc, ◌<◌, ◌≤◌, Bool, true, ◌&&◌, List, [], ◌∷◌, ◌++◌, if◌then◌else◌, drop, get_or, length, map}
 use Rattle.std.specs.List.{AllByRecursion, flat_map}
 use Rattle.std.specs.List.Sorted.{IsStrictlyIncreasing}
 use Rattle.gb_defs.specs.Classes.{firsts, rows_below}
@@ -55,14 +55,8 @@ abbrev pub renumbered : List ℕ → List RowNumbers → List ℕ
 renumbered numbers [] = []
 renumbered numbers (part ∷ parts) = map (λ place. get_or numbers place 0) part.of_rows.items ++ renumbered (drop (length part.first.items) numbers) parts
 
--- ---- numbers by two keys
+-- ---- rows by two keys
 
 -- two rows agree by both
 abbrev pub both_agree : (ℕ → ℕ → Bool) → (ℕ → ℕ → Bool) → ℕ → ℕ → Bool
 both_agree a b i j = a i j && b i j
-
--- two numbers of each row, in one
-pub record ArePairs (front back words : List ℕ) : Type 0 where
-  pub many : length words ≡ length front
-  pub each : (k : ℕ) → k < length front → get_or words k 0 ≡ get_or front k 0 * 4294967296 + get_or back k 0
-  pub small : (k : ℕ) → get_or back k 0 < 4294967296

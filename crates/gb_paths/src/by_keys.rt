@@ -1,5 +1,6 @@
-//! The groups of rows by several keys: rows that hold one slot in each. The keys are put into the bytes of
-//! rows, which are grouped as one column is.
+//! The groups of rows by several keys: rows that hold one slot in each. Where numbers of the groups are wanted each
+//! key is numbered by itself; else, and where one alone has about as many groups as there are rows, the keys are put
+//! into the bytes of rows, which are grouped as one column is.
 
 ghost use Rattle.std.specs.Prelude.{◌≡◌, ◌∷◌, ◌<◌, [], All, false, length, true, OnOk, IfOk, IfErr, IfSome};
 ghost use Rattle.std.specs.List.{AllZip};
@@ -16,17 +17,13 @@ ghost use Rattle.gb_rows.specs.Lent.{keys_in};
 ghost use Rattle.gb_rows.specs.Rows.{AreOfOneLength};
 ghost use Rattle.gb_rows.specs.Told.{AreToldByRows};
 ghost use Rattle.gb_paths.specs.Classes.{NumberAll, grouping_of};
-ghost use Rattle.gb_paths.specs.Each.{HasValues};
-ghost use Rattle.gb_paths.specs.Keys.{StandFor};
-ghost use Rattle.gb_paths.specs.Numbering.{AreNumbersUnder};
 ghost use Rattle.gb_paths.specs.Tuples.{AreClasses, AreFound, IsNullUnlessValued, all_path, path_value, slots_of, tuples_by, tuples_of_bytes};
 
 use crate::classes::{Classes, classes_by_path, classes_of_keys};
 use crate::into_groups::{group_series, group_tuples_gated, one_run};
-use crate::keys::{KeyColumn, Keys};
-use crate::number_each::{SeveralKeys, number_each};
+use crate::keys::Keys;
+use crate::number_several::number_several;
 use crate::path::{KeyOrder, KeyPath, Path, choose_path, path_of};
-use crate::row_numbers::RowNumbers;
 use gb_base::device::Gate;
 use gb_base::error::PolarsResult;
 use gb_base::pool::Pool;
@@ -208,7 +205,7 @@ fn classes_several<T: Threads + Sync, G: Gate + Sync>(
     }
     let path = choose_path(true, keys[0].len(), multithreaded, pool);
     if by_numbers && sorted {
-        if let Some(numbers) = numbers_several(rt, alloc, &valued, pool)? {
+        if let Some(numbers) = number_several(rt, alloc, &valued, pool)? {
             return Ok((Classes::Numbers(numbers), Path::from(path)));
         }
     }
@@ -223,46 +220,6 @@ fn classes_several<T: Threads + Sync, G: Gate + Sync>(
         gate,
     )?;
     Ok((made, Path::from(path)))
-}
-
-// The numbers of the groups of the rows of keys, unless there are likely many groups.
-fn numbers_several<T: Threads + Sync>(
-    rt: &T,
-    alloc: Global,
-    keys: &[&Series],
-    pool: &Pool,
-) -> PolarsResult<Option<RowNumbers>>
-    requires some { 0 < length keys.now }
-    requires aligned { AreOfOneLength (keys_in keys.now) }
-    requires few { HasRowNumbers (frame_height (keys_in keys.now)) }
-    requires valued { All HasValues (keys_in keys.now) }
-    ensures ok { let keys = keys_in keys.now in IfOk result (λ found. IfSome found
-        (AreNumbersUnder (agree_by (slots_of keys)) (rows_below (frame_height keys)))) }
-    ensures err { IfErr result IsNoMemory }
-{
-    let all = forms_of(alloc, keys)?;
-    let several = SeveralKeys {
-        keys: &all,
-        count: keys[0].len(),
-        seed: pool.seed(),
-    };
-    number_each(rt, alloc, &several, pool)
-}
-
-// The keys of each column in a form.
-fn forms_of<'a>(alloc: Global, columns: &[&'a Series]) -> PolarsResult<Vec<Keys<'a>>>
-    requires { All HasValues (keys_in columns.now) }
-    ensures ok { IfOk result (λ all. AllZip StandFor (keys_in columns.now) all.items) }
-    ensures err { IfErr result IsNoMemory }
-{
-    let mut all = Vec::with_capacity(alloc, columns.len())?;
-    for column in columns {
-        match column.keys()? {
-            Some(keys) => all.push(keys)?,
-            None => unreachable!(),
-        }
-    }
-    Ok(all)
 }
 
 // The keys that tell rows apart.

@@ -159,9 +159,9 @@ fn groups_in_order<T: Threads + Sync>(
     numbers.into_groups(alloc)
 }
 
-// The numbers of the groups of rows by keys in any form.
+/// The numbers of the groups of rows by keys in any form.
 #[tactic(auto, using(crate::proofs::TextLemmas::texts_few))]
-fn number_keys<T: Threads + Sync>(
+pub(crate) fn number_keys<T: Threads + Sync>(
     rt: &T,
     alloc: Global,
     keys: &Keys<'_>,

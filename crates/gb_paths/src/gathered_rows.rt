@@ -9,13 +9,12 @@ ghost use Rattle.gb_base.specs.PlSmallStr.{IsNoMemory};
 ghost use Rattle.gb_paths.specs.Gathered.{gathered, gathered_alike};
 ghost use Rattle.gb_paths.specs.Numbering.{AreNumbersAmong};
 
-use crate::number_pairs::rows_at;
 use crate::number_rows::number_all;
 use crate::row_hashes::RowHashes;
 use crate::row_numbers::RowNumbers;
 use gb_base::error::PolarsResult;
 use gb_base::nullable_idx::IdxSize;
-use gb_groups::row_lists::ListedRows;
+use gb_groups::row_lists::{ListedRows, Members};
 use gb_hash::key_rows::{KeyRows, Steps};
 use std::alloc::{AllocError, Global};
 use std::marker::Brand;
@@ -137,6 +136,23 @@ fn read_hashes<H: RowHashes>(
         read.push_reserved(hashes.hash_of(members[place] as usize));
     }
     Ok(read)
+}
+
+// The rows at some places.
+fn rows_at<M: Members>(
+    alloc: Global,
+    members: &M,
+    places: &[u32],
+) -> Result<Vec<IdxSize>, AllocError>
+    requires { All (λ place. place < length (M.listed members.now)) places.now }
+    ensures { IfOk result (λ rows. rows.items
+        ≡ map (λ place. get_or (M.listed members.now) place 0) places.now) }
+{
+    let mut rows = Vec::with_capacity(alloc, places.len())?;
+    for place in places {
+        rows.push(members.row_at(*place as usize))?;
+    }
+    Ok(rows)
 }
 
 /// The numbers of the groups of some rows among themselves, by hashes of all rows, for rows that do not follow each

@@ -59,9 +59,9 @@ pub(crate) fn number_rows<T: Threads + Sync, R: KeyRows>(
     }
 }
 
-// Whether nearly all of the first rows are each in a group of its own: then there are likely more groups than one
-// table keeps near.
-fn has_many_groups<R: KeyRows>(alloc: Global, rows: &R) -> PolarsResult<bool>
+/// Whether nearly all of the first rows are each in a group of its own: then there are likely more groups than one
+/// table keeps near.
+pub(crate) fn has_many_groups<R: KeyRows>(alloc: Global, rows: &R) -> PolarsResult<bool>
     requires few { HasRowNumbers (R.rows rows.now).count }
     ensures err { IfErr result IsNoMemory }
 {

@@ -312,3 +312,82 @@ fn first_missing_key(rt: HostRuntime) -> Result<(), Fail> {
     assert!(rt; twice.code() == 4);
     Ok(())
 }
+
+// ---- keys whose numbers are more than a word can tell apart
+
+const KEYS: usize = 13;
+
+const VALUES: usize = 32;
+
+// The cell of a key at a row: rows that are so many apart agree in each key, but for the first ones, which differ in
+// one.
+fn digit_at(key: usize, row: usize) -> usize {
+    let value = row % VALUES;
+    if row >= VALUES && value < 26 && value % KEYS == key {
+        return value.wrapping_add(VALUES);
+    }
+    value
+}
+
+// The cells of all keys at a row, and one behind them.
+fn push_row(alloc: Global, text: &mut String, row: usize, last: usize) -> Result<(), Fail> {
+    for key in 0..KEYS {
+        let cell = digit_at(key, row);
+        text.push_str(format!(in alloc; "{cell},")?.as_str())?;
+    }
+    text.push_str(format!(in alloc; "{last}\n")?.as_str())?;
+    Ok(())
+}
+
+// The header of the keys, and a field behind them.
+fn header(alloc: Global, last: &str) -> Result<String, Fail> {
+    let mut text = String::new(alloc);
+    for key in 0..KEYS {
+        text.push_str(format!(in alloc; "k{key}:i64,")?.as_str())?;
+    }
+    text.push_str(format!(in alloc; "{last}:i64\n")?.as_str())?;
+    Ok(text)
+}
+
+fn table_of_many(alloc: Global) -> Result<String, Fail> {
+    let mut text = header(alloc, "v")?;
+    for row in 0..64usize {
+        push_row(alloc, &mut text, row, row)?;
+    }
+    Ok(text)
+}
+
+fn answer_of_many(alloc: Global) -> Result<String, Fail> {
+    let mut text = header(alloc, "v_sum")?;
+    for row in 0..58usize {
+        let other = row.wrapping_add(VALUES);
+        let sum = if row >= 26 && row < VALUES {
+            row.wrapping_add(other)
+        } else {
+            row
+        };
+        push_row(alloc, &mut text, row, sum)?;
+    }
+    Ok(text)
+}
+
+fn words_of_many(alloc: Global, workers: usize) -> Result<String, Fail> {
+    let mut words = String::from_str(alloc, "group")?;
+    for key in 0..KEYS {
+        words.push_str(format!(in alloc; " --by k{key}")?.as_str())?;
+    }
+    words.push_str(format!(in alloc; " --agg sum:v --workers {workers}")?.as_str())?;
+    Ok(words)
+}
+
+#[test]
+fn numbers_of_many_keys(rt: HostRuntime) -> Result<(), Fail> {
+    let alloc = rt.alloc();
+    let (input, wrote) = (table_of_many(alloc)?, answer_of_many(alloc)?);
+    for workers in [1, 3].iter() {
+        let words = words_of_many(alloc, *workers)?;
+        let (status, sink) = written(&rt, alloc, words.as_str(), input.as_str())?;
+        assert!(rt; status.code() == 0 && sink.bytes() == wrote.as_bytes());
+    }
+    Ok(())
+}

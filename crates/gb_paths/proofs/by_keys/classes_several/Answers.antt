@@ -10,9 +10,8 @@ use Rattle.gb_series.specs.Series.{value_of}
 use Rattle.gb_rows.specs.Lent.{keys_in}
 use Rattle.gb_rows.specs.Rows.{AreOfOneLength}
 use Rattle.gb_rows.specs.Told.{AreToldByRows}
-use Rattle.gb_paths.specs.Keys.{null_rows}
+use Rattle.gb_paths.specs.Keys.{HasValues, null_rows}
 use Rattle.gb_defs.specs.Notes.{path_by_keys, valued_keys}
-use Rattle.gb_paths.specs.Each.{HasValues}
 use Rattle.gb_paths.specs.Numbering.{AreNumbersUnder}
 use Rattle.gb_paths.specs.Tuples.{slots_of, tuples_by, tuples_of_bytes}
 use Rattle.gb_paths.proofs.SeveralLemmas.{first_lent, none_lent, some_path, tuples_by_bytes, tuples_by_none, tuples_by_numbers, valued_have, valued_height, valued_length}
@@ -40,14 +39,14 @@ returns-then-is_empty-clause-path g c =
     let valued : valued_keys keys ≡ [] = sym c.in_ok-valued.ensures.valued ∙ none_lent items none in
     sym (ap (λ ks. path_by_keys ks (frame_height keys) c.args.multithreaded (workers_of pool) (threshold_of pool)) valued)
 
-pub numbers_several-requires-clause-some : goal.numbers_several-requires-clause-some
-numbers_several-requires-clause-some g c κs within =
+pub number_several-requires-clause-some : goal.number_several-requires-clause-some
+number_several-requires-clause-some g c κs within =
     let items = c.in_ok-valued.valued.items in
     let some : 0 < length items = search rules in
     rw c.deref.ensures.value some
 
-pub numbers_several-requires-clause-aligned : goal.numbers_several-requires-clause-aligned
-numbers_several-requires-clause-aligned g c κs within =
+pub number_several-requires-clause-aligned : goal.number_several-requires-clause-aligned
+number_several-requires-clause-aligned g c κs within =
     let keys = keys_in c.args.keys.now in
     let items = c.in_ok-valued.valued.items in
     let valued = c.in_ok-valued.ensures.valued in
@@ -55,8 +54,8 @@ numbers_several-requires-clause-aligned g c κs within =
     let some_keys : 0 < length (valued_keys keys) = subst (λ ks. 0 < length ks) valued (rw (length-map items (λ key. value_of key.now)) some) in
     subst AreOfOneLength (sym (ap keys_in c.deref.ensures.value ∙ valued)) (valued_length keys c.requires.aligned some_keys)
 
-pub numbers_several-requires-clause-few : goal.numbers_several-requires-clause-few
-numbers_several-requires-clause-few g c κs within =
+pub number_several-requires-clause-few : goal.number_several-requires-clause-few
+number_several-requires-clause-few g c κs within =
     let keys = keys_in c.args.keys.now in
     let items = c.in_ok-valued.valued.items in
     let valued = c.in_ok-valued.ensures.valued in
@@ -64,8 +63,8 @@ numbers_several-requires-clause-few g c κs within =
     let some_keys : 0 < length (valued_keys keys) = subst (λ ks. 0 < length ks) valued (rw (length-map items (λ key. value_of key.now)) some) in
     subst (λ ks. frame_height ks < 4294967296) (sym (ap keys_in c.deref.ensures.value ∙ valued)) (rw (valued_height keys c.requires.aligned some_keys) c.requires.few)
 
-pub numbers_several-requires-clause-valued : goal.numbers_several-requires-clause-valued
-numbers_several-requires-clause-valued g c κs within =
+pub number_several-requires-clause-valued : goal.number_several-requires-clause-valued
+number_several-requires-clause-valued g c κs within =
     let keys = keys_in c.args.keys.now in
     subst (λ (ks : Frame). All HasValues ks) (sym (ap keys_in c.deref.ensures.value ∙ c.in_ok-valued.ensures.valued)) (valued_have keys)
 

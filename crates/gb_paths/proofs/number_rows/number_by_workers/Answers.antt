@@ -1,13 +1,12 @@
-use Rattle.std.proofs.Common.{◌≡◌, ◌∙◌, ◌<◌, ℕ, List, ap, arith, get_or, length, subst, sym}
+use Rattle.std.proofs.Common.{◌≡◌, ◌∙◌, ap, arith, length, subst}
 use Rattle.std.specs.Cmp.{on_equiv}
 use Rattle.std.proofs.lemmas.List.{length-map}
 use Rattle.std.proofs.lemmas.List.Elements.{All-from_recursion}
 use Rattle.std.proofs.lemmas.List.FromFn.{length-range_with_len}
 use Rattle.gb_defs.specs.Classes.{rows_below}
-use Rattle.gb_defs.specs.Rows.{Rows, same_slot_at}
+use Rattle.gb_defs.specs.Rows.{same_slot_at}
 use Rattle.gb_defs.proofs.SlotLemmas.{slot_eq_equiv}
-use Rattle.gb_paths.specs.Numbering.{AreNumbersAmong, AreNumbersOf, firsts_in, number_in, renumbered}
-use Rattle.gb_paths.specs.declared.row_numbers.RowNumbers.{RowNumbers}
+use Rattle.gb_paths.specs.Numbering.{AreNumbersAmong, firsts_in, number_in, renumbered}
 use Rattle.gb_paths.proofs.NumberingLemmas.{numbers_known}
 use Rattle.gb_paths.proofs.PartLemmas.{all_numbered, parts_members, range_rises}
 use Rattle.gb_paths.proofs.number_rows.number_by_workers.Goals as goal
