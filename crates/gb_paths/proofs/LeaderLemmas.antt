@@ -18,6 +18,7 @@ use Rattle.gb_paths.specs.Leaders.{AreLeaders, leader_in, led, put_at, put_parts
 use Rattle.gb_paths.specs.declared.leaders.LedRows.{LedRows}
 use Rattle.gb_paths.specs.Partitions.{rows_by_partition}
 use Rattle.gb_paths.specs.Numbering.{AreNumbersOf, number_in}
+use Rattle.gb_paths.proofs.NextLemmas.{next_new, next_old}
 use Rattle.gb_paths.proofs.NumberingLemmas.{all_found, any_at, before_it, found_all, members_alike, numbers_known, opened, same_number}
 
 -- ---- the first row that agrees
@@ -186,20 +187,6 @@ module _ (leaders : List ℕ) where
       on_leaders : IsEquivalence (same_leader leaders)
       on_leaders = on_equiv (λ row. get_or leaders row 0) nat_eq_equiv
 
-  number_found : (first : List ℕ) (n row : ℕ) → list_any (same_leader leaders row) first ≡ true → number_in (same_leader leaders) (first ++ n ∷ []) row ≡ number_in (same_leader leaders) first row
-  number_found [] n row some = cc
-  number_found (f ∷ fs) n row some = elim (cases_Bool (same_leader leaders row f)) [
-    | inl e ↦ rw e refl
-    | inr e ↦ rw e (ap suc (number_found fs n row (rw e at some)))
-  ]
-
-  number_new : (first : List ℕ) (row : ℕ) → list_any (same_leader leaders row) first ≡ false → number_in (same_leader leaders) (first ++ row ∷ []) row ≡ length first
-  number_new [] row none = rw (same_equiv.refl row) refl
-  number_new (f ∷ fs) row none = elim (cases_Bool (same_leader leaders row f)) [
-    | inl e ↦ cc (rw e at none)
-    | inr e ↦ rw e (ap suc (number_new fs row (rw e at none)))
-  ]
-
   pub numbers_all : (n : ℕ) (first numbers : List ℕ) → AreNumbersOf (same_leader leaders) (rows_below n) first numbers → AllByRecursion (λ number. number < length first) numbers
   numbers_all n first numbers are' = numbers_known (same_leader leaders) same_equiv (rows_below n) (all_up (same_leader leaders) same_equiv n) first numbers are'
 
@@ -209,12 +196,6 @@ module _ (leaders : List ℕ) where
 
     abbrev leader : ℕ
     leader = get_or leaders row 0
-
-    up_to : IsStrictlyIncreasing (rows_below row)
-    up_to = all_up same same_equiv row
-
-    known : AllByRecursion (λ r. list_any (same r) first ≡ true) (rows_below row)
-    known = rw so_far.first_is (all_found same same_equiv (rows_below row) up_to)
 
     -- a row that leads its group agrees with none before
     none_leads : leader ≡ row → (xs : List ℕ) → AllByRecursion (λ j. j < row) xs → list_any (same row) xs ≡ false
@@ -230,21 +211,7 @@ module _ (leaders : List ℕ) where
     not_own other = (omega (arith, other, are.low row lt), eq-eqb _ _ (sym (are.own row lt)))
 
     pub next_leads : leader ≡ row → AreNumbersOf same (rows_below (row + 1)) (first ++ row ∷ []) (numbers ++ length first ∷ [])
-    next_leads is =
-        let none = none_leads is (rows_below row) (rows_below_all row) in
-        let none_first : list_any (same row) first ≡ false = rw so_far.first_is (sym (found_all same same_equiv (rows_below row) up_to row) ∙ none) in
-        record {
-          first_is = rw (rows_below_more row, firsts_push same (rows_below row) row (rows_below_all row), none) (ap (λ xs. xs ++ row ∷ []) so_far.first_is);
-          numbers_are = rw (rows_below_more row) (
-              ap₂ (λ (xs ys : List ℕ). xs ++ ys)
-              (so_far.numbers_are ∙ map_agree_on (number_in same first) (number_in same (first ++ row ∷ [])) (rows_below row) (same_all (rows_below row) known))
-              (ap (λ k. k ∷ []) (sym (number_new first row none_first)))
-              ∙ sym (map-append (number_in same (first ++ row ∷ [])) (rows_below row) (row ∷ [])));
-        }
-      where
-        same_all : (xs : List ℕ) → AllByRecursion (λ r. list_any (same r) first ≡ true) xs → AllByRecursion (λ r. number_in same first r ≡ number_in same (first ++ row ∷ []) r) xs
-        same_all [] h = tt
-        same_all (x ∷ xs) h = (sym (number_found first row x h.0), same_all xs h.1)
+    next_leads is = next_new same same_equiv row first numbers so_far (none_leads is (rows_below row) (rows_below_all row))
 
     pub next_led : leader ≢ row → AreNumbersOf same (rows_below (row + 1)) first (numbers ++ get_or numbers leader 0 ∷ [])
     next_led other =
@@ -254,12 +221,7 @@ module _ (leaders : List ℕ) where
         let mine : get_or numbers leader 0 ≡ number_in same first row =
         ap (λ ns. get_or ns leader 0) so_far.numbers_are ∙ get_or-map-range_with_len (number_in same first) 0 row leader leader 0 is.0 (omega arith)
         ∙ sym (same_number same same_equiv row leader is.1 first) in
-        record {
-          first_is = so_far.first_is ∙ sym (rw (rows_below_more row, firsts_push same (rows_below row) row (rows_below_all row), some) (append-nil (firsts same (rows_below row))));
-          numbers_are = rw (rows_below_more row, mine) (
-              ap (λ ns. ns ++ number_in same first row ∷ []) so_far.numbers_are
-              ∙ sym (map-append (number_in same first) (rows_below row) (row ∷ [])));
-        }
+        next_old same same_equiv row first numbers so_far (get_or numbers leader 0) mine some
       where
         zero_more : (k : ℕ) → 0 + k ≡ k
         zero_more k = omega arith

@@ -7,7 +7,9 @@ pub mod JoinLemmas
 pub mod KeyFormLemmas
 pub mod KeyLemmas
 pub mod LeaderLemmas
+pub mod ListedLemmas
 pub mod MemberLemmas
+pub mod NextLemmas
 pub mod NumberingLemmas
 pub mod OrderLemmas
 pub mod PackLemmas
@@ -20,4 +22,3 @@ pub mod RunLemmas
 pub mod SeveralLemmas
 pub mod TextLemmas
 pub mod TupleLemmas
-pub mod WordLemmas

@@ -254,7 +254,7 @@ module _ (agree : ℕ → ℕ → Bool) (equiv : IsEquivalence agree) where
       rw (other 0 (omega arith)) (ap suc (number_skips x fs k (omega (arith, lt)) (λ j low. other (suc j) (omega (arith, low))) here))
 
   module _ (rows : List ℕ) (up : IsStrictlyIncreasing rows) where
-    abbrev first : List ℕ
+    abbrev pub first : List ℕ
     first = firsts agree rows
 
     first_up : IsStrictlyIncreasing first
@@ -269,7 +269,7 @@ module _ (agree : ℕ → ℕ → Bool) (equiv : IsEquivalence agree) where
         let none = none_at (before_it agree x) first (not_true _ (each k 0 inside)) j (omega (arith, lt, inside)) in
         rw (lt-ltb _ _ low) at none
 
-    number_at : (k : ℕ) → k < length first → number_in agree first (get_or first k 0) ≡ k
+    pub number_at : (k : ℕ) → k < length first → number_in agree first (get_or first k 0) ≡ k
     number_at k lt = number_skips (get_or first k 0) first k lt (λ j low. apart j k low lt) (equiv.refl (get_or first k 0))
 
     pub found_first : (i : ℕ) (d : ℕ) → i < length rows → list_any (agree (get_or rows i d)) first ≡ true

@@ -20,7 +20,7 @@ use Rattle.gb_series.specs.Series.{value_of}
 use Rattle.gb_series.specs.declared.series.Series.{Series}
 use Rattle.gb_paths.specs.Keys.{HasValues, StandFor, rows_of_keys}
 use Rattle.gb_paths.specs.Numbering.{AreNumbersAmong, AreNumbersOf, AreNumbersUnder, both_agree, number_in}
-use Rattle.gb_paths.specs.Packed.{ArePacked, HaveDigits, IsKeyOf, IsNumberedBy, IsPacked, NumbersKey}
+use Rattle.gb_paths.specs.Packed.{ArePacked, HaveDigits, IsKeyOf, IsNumberedBy, IsPacked, NumbersKey, words_in}
 use Rattle.gb_paths.specs.Words.{AreBelow, same_word}
 use Rattle.gb_paths.specs.Tuples.{slots_of}
 use Rattle.gb_base.specs.declared.error.PolarsError.{PolarsError}
@@ -224,12 +224,12 @@ pub record IsPackedTo (keys : List (Bor Series)) (start packed : PackedRows) (le
   pub at : ℕ
   pub within : at + length left ≡ length keys
   pub found : (k : ℕ) (d : Result (Option RowNumbers) PolarsError) → k < length left → NumbersKey keys (at + k) (get_or left k d)
-  pub many : length packed.words.items ≡ length start.words.items
-  pub low : AreBelow packed.below packed.words.items
-  pub so_far : (before : Frame) → IsPacked (agree_by (slots_of before)) (rows_below (length start.words.items)) start
-      → IsPacked (agree_by (slots_of (before ++ take at (keys_in keys)))) (rows_below (length start.words.items)) packed
+  pub many : length (words_in packed.words) ≡ length (words_in start.words)
+  pub low : AreBelow packed.below (words_in packed.words)
+  pub so_far : (before : Frame) → IsPacked (agree_by (slots_of before)) (rows_below (length (words_in start.words))) start
+      → IsPacked (agree_by (slots_of (before ++ take at (keys_in keys)))) (rows_below (length (words_in start.words))) packed
 
-pub none_packed : (keys : List (Bor Series)) (start : PackedRows) (found : List (Result (Option RowNumbers) PolarsError)) → AreBelow start.below start.words.items → length found ≡ length keys
+pub none_packed : (keys : List (Bor Series)) (start : PackedRows) (found : List (Result (Option RowNumbers) PolarsError)) → AreBelow start.below (words_in start.words) → length found ≡ length keys
     → ((k : ℕ) (d : Result (Option RowNumbers) PolarsError) → k < length found → NumbersKey keys k (get_or found k d)) → IsPackedTo keys start start found
 none_packed keys start found low long each = record {
   at = 0;
@@ -247,29 +247,29 @@ module _ (keys : List (Bor Series)) (start packed : PackedRows) (one : Result (O
   pub next_inside : s.at < length keys
   next_inside = let within = s.within in omega (arith, within)
 
-  module _ (keyed : All (IsKeyOf (length start.words.items)) (keys_in keys)) (next : RowNumbers) (is : one ≡ Ok (Some next)) where
+  module _ (keyed : All (IsKeyOf (length (words_in start.words))) (keys_in keys)) (next : RowNumbers) (is : one ≡ Ok (Some next)) where
     abbrev pub d : Bor Series
     d = some_key keys s.at next_inside
 
     abbrev pub column : ColumnValue
     column = value_of (get_or keys s.at d).now
 
-    is_key : IsKeyOf (length start.words.items) column
+    is_key : IsKeyOf (length (words_in start.words)) column
     is_key =
-        subst (IsKeyOf (length start.words.items)) (get_or-map (λ key. value_of key.now) keys s.at d column next_inside)
+        subst (IsKeyOf (length (words_in start.words))) (get_or-map (λ key. value_of key.now) keys s.at d column next_inside)
         (keyed s.at column (rw (length-map keys (λ key. value_of key.now)) next_inside))
 
-    pub next_numbers : AreNumbersUnder (same_slot column.slots) (rows_below (length start.words.items)) next
+    pub next_numbers : AreNumbersUnder (same_slot column.slots) (rows_below (length (words_in start.words))) next
     next_numbers = subst (λ n. AreNumbersUnder (same_slot column.slots) (rows_below n) next) is_key.long (subst (λ r. IfOk r (IsNumberedBy column)) is (next_is.ok d))
 
-    pub next_many : length next.of_rows.items ≡ length packed.words.items
+    pub next_many : length next.of_rows.items ≡ length (words_in packed.words)
     next_many =
-        numbers_many (same_slot column.slots) (slot_equiv column.slots) (rows_below (length start.words.items)) next.first.items next.of_rows.items (range_rises 0 (length start.words.items)) next_numbers
-        ∙ length-range_with_len 0 (length start.words.items) ∙ sym s.many
+        numbers_many (same_slot column.slots) (slot_equiv column.slots) (rows_below (length (words_in start.words))) next.first.items next.of_rows.items (range_rises 0 (length (words_in start.words))) next_numbers
+        ∙ length-range_with_len 0 (length (words_in start.words)) ∙ sym s.many
 
-    pub more_packed : (more : PackedRows) → length more.words.items ≡ length packed.words.items → AreBelow more.below more.words.items
-        → ((a b : ℕ → ℕ → Bool) → IsEquivalence a → IsEquivalence b → IsPacked a (rows_below (length packed.words.items)) packed → AreNumbersUnder b (rows_below (length packed.words.items)) next
-        → IsPacked (both_agree a b) (rows_below (length packed.words.items)) more) → IsPackedTo keys start more left
+    pub more_packed : (more : PackedRows) → length (words_in more.words) ≡ length (words_in packed.words) → AreBelow more.below (words_in more.words)
+        → ((a b : ℕ → ℕ → Bool) → IsEquivalence a → IsEquivalence b → IsPacked a (rows_below (length (words_in packed.words))) packed → AreNumbersUnder b (rows_below (length (words_in packed.words))) next
+        → IsPacked (both_agree a b) (rows_below (length (words_in packed.words))) more) → IsPackedTo keys start more left
     more_packed more many low by = record {
       at = s.at + 1;
       within = let within = s.within in omega (arith, within);
@@ -277,7 +277,7 @@ module _ (keys : List (Bor Series)) (start packed : PackedRows) (one : Result (O
       many = many ∙ s.many;
       low = low;
       so_far = λ before packed_first.
-          let n = length start.words.items in
+          let n = length (words_in start.words) in
           let front = before ++ take s.at (keys_in keys) in
           let here = take_more (keys_in keys) s.at column (rw (length-map keys (λ key. value_of key.now)) next_inside) in
           let own : get_or (keys_in keys) s.at column ≡ column = get_or-map (λ key. value_of key.now) keys s.at d column next_inside in
@@ -291,24 +291,33 @@ module _ (keys : List (Bor Series)) (start packed : PackedRows) (one : Result (O
     }
 
 pub all_packed : (keys : List (Bor Series)) (start packed : PackedRows) (left : List (Result (Option RowNumbers) PolarsError)) → IsPackedTo keys start packed left → left ≡ []
-    → (before : Frame) → IsPacked (agree_by (slots_of before)) (rows_below (length start.words.items)) start → IsPacked (agree_by (slots_of (before ++ keys_in keys))) (rows_below (length start.words.items)) packed
+    → (before : Frame) → IsPacked (agree_by (slots_of before)) (rows_below (length (words_in start.words))) start → IsPacked (agree_by (slots_of (before ++ keys_in keys))) (rows_below (length (words_in start.words))) packed
 all_packed keys start packed left s none before first =
     let within = s.within in
     let all = take_all s.at (keys_in keys) (omega (arith, within, ap length none, length-map keys (λ key. value_of key.now))) in
-    subst (λ (ks : Frame). IsPacked (agree_by (slots_of (before ++ ks))) (rows_below (length start.words.items)) packed) all (s.so_far before first)
+    subst (λ (ks : Frame). IsPacked (agree_by (slots_of (before ++ ks))) (rows_below (length (words_in start.words))) packed) all (s.so_far before first)
 
 -- ---- all keys
 
 -- without keys all rows agree
-pub packed_none : (n : ℕ) (words : List ℕ) → words ≡ replicate n 0 → ArePacked (agree_by []) (rows_below n) words 1
-packed_none n words are =
+pub packed_none : (n : ℕ) → ArePacked (agree_by []) (rows_below n) (replicate n 0) 1
+packed_none n =
     let long = length-range_with_len 0 n in
-    let zero_at : (k : ℕ) → k < n → get_or words k 0 ≡ 0 = λ k lt. ap (λ ws. get_or ws k 0) are ∙ get_or-replicate n k 0 0 lt in
-    let many : length words ≡ n = ap length are ∙ length-replicate n 0 in
+    let zero_at : (k : ℕ) → k < n → get_or {A = ℕ} (replicate n 0) k 0 ≡ 0 = λ k lt. get_or-replicate {A = ℕ} n k 0 0 lt in
+    let many : length {A = ℕ} (replicate n 0) ≡ n = length-replicate {A = ℕ} n 0 in
     record {
       many = many ∙ sym long;
       low = λ k lt. let is = zero_at k (omega (arith, lt, many)) in omega (arith, is);
       alike = λ i j lt lt'. ap₂ (λ (p q : ℕ). p == q) (zero_at i (omega (arith, lt, long))) (zero_at j (omega (arith, lt', long)));
+    }
+
+-- numbers are digits of no words
+pub first_digits : (base n : ℕ) (digits : List ℕ) → length digits ≡ n → HaveDigits base (replicate n 0) digits digits
+first_digits base n digits long =
+    let many : length {A = ℕ} (replicate n 0) ≡ n = length-replicate {A = ℕ} n 0 in
+    record {
+      many = long ∙ sym many;
+      each = λ k lt. let is = get_or-replicate {A = ℕ} n k 0 0 (omega (arith, lt, many)) in rw is (let none : 0 * base + get_or digits k 0 ≡ get_or digits k 0 = omega arith in sym none);
     }
 
 -- words are as many as their slots

@@ -5,7 +5,6 @@ use Rattle.smallvec.specs.SmallVec.{SmallVec}
 use Rattle.gb_defs.specs.Classes.{rows_below}
 use Rattle.gb_defs.specs.Rows.{Rows, same_slot_at}
 use Rattle.gb_paths.specs.Partitions.{AreListed, list_joined, lists_joined, rows_by_partition}
-use Rattle.gb_paths.specs.Words.{same_word}
 use Rattle.gb_paths.specs.declared.leaders.LedRows.{LedRows}
 
 -- the first of some rows that a row agrees with
@@ -21,12 +20,6 @@ pub record AreLeaders (leaders : List ℕ) : Type 0 where
 -- two rows have one leader
 abbrev pub same_leader : List ℕ → ℕ → ℕ → Bool
 same_leader leaders row other = get_or leaders row 0 == get_or leaders other 0
-
--- the leaders of places by the words that stand there
-pub record AreLeadersBy (words leaders : List ℕ) : Type 0 where
-  pub many : length leaders ≡ length words
-  pub lead : AreLeaders leaders
-  pub alike : (i j : ℕ) → i < length words → j < length words → same_leader leaders i j ≡ same_word words i j
 
 -- values put into places of a list, one after another
 abbrev pub put_at : List ℕ → List ℕ → List ℕ → List ℕ

@@ -1,5 +1,5 @@
 -- Words of rows, made of their numbers by several keys.
-use Rattle.std.specs.Prelude.{◌≡◌, ℕ, ◌+◌, ◌*◌, ◌<◌, ◌≤◌, Bool, IfErr, IfOk, IfSome, List, Option, Result, get_or, length}
+use Rattle.std.specs.Prelude.{◌≡◌, ℕ, ◌+◌, ◌*◌, ◌<◌, ◌≤◌, Bool, IfErr, IfOk, IfSome, List, Option, Result, get_or, length, replicate}
 use Rattle.std.specs.Borrow.{Bor}
 use Rattle.gb_defs.specs.Classes.{rows_below, same_slot}
 use Rattle.gb_defs.specs.Column.{ColumnValue}
@@ -12,7 +12,15 @@ use Rattle.gb_paths.specs.Keys.{HasValues}
 use Rattle.gb_paths.specs.Numbering.{AreNumbersUnder}
 use Rattle.gb_paths.specs.Words.{AreBelow, same_word}
 use Rattle.gb_paths.specs.declared.number_several.PackedRows.{PackedRows}
+use Rattle.gb_paths.specs.declared.number_several.Words.{Words}
+use Rattle.gb_paths.specs.declared.number_several.Words.TheVariants.{None, Narrow, Wide}
 use Rattle.gb_paths.specs.declared.row_numbers.RowNumbers.{RowNumbers}
+
+-- words in whatever room
+abbrev pub words_in : Words → List ℕ
+words_in (None rows) = replicate rows 0
+words_in (Narrow words) = words.items
+words_in (Wide words) = words.items
 
 -- a column whose rows have keys and numbers
 pub record HasKeys (column : ColumnValue) : Type 0 where
@@ -40,17 +48,17 @@ pub record ArePacked (agree : ℕ → ℕ → Bool) (rows words : List ℕ) (bou
   pub alike : (i j : ℕ) → i < length rows → j < length rows → same_word words i j ≡ agree (get_or rows i 0) (get_or rows j 0)
 
 abbrev pub IsPacked : (ℕ → ℕ → Bool) → List ℕ → PackedRows → Type 0
-IsPacked agree rows packed = ArePacked agree rows packed.words.items packed.below
+IsPacked agree rows packed = ArePacked agree rows (words_in packed.words) packed.below
 
 -- so many words, all below their bound
 pub record HasWords (rows : ℕ) (packed : PackedRows) : Type 0 where
-  pub many : length packed.words.items ≡ rows
-  pub low : AreBelow packed.below packed.words.items
+  pub many : length (words_in packed.words) ≡ rows
+  pub low : AreBelow packed.below (words_in packed.words)
 
--- digits to a base, and words that have room for one more
-pub record AreDigits (base : ℕ) (words digits : List ℕ) : Type 0 where
+-- digits to a base, and words that with one more are below a bound
+pub record AreDigits (bound base : ℕ) (words digits : List ℕ) : Type 0 where
   pub low : AreBelow base digits
-  pub room : (k : ℕ) → k < length words → get_or words k 0 * base + base ≤ 18446744073709551615
+  pub room : (k : ℕ) → k < length words → get_or words k 0 * base + base ≤ bound
 
 -- words, each with a digit behind its own
 pub record HaveDigits (base : ℕ) (words digits more : List ℕ) : Type 0 where

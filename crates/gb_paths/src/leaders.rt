@@ -1,18 +1,14 @@
 //! The first row of each row's group, and the numbers of the groups by these.
 
-ghost use Rattle.std.specs.Prelude.{◌≡◌, ◌++◌, ◌==◌, ◌<◌, ◌≤◌, ◌∷◌, [], All, IfOk, OnOk, get_or, if◌then◌else◌, length, map, replicate};
+ghost use Rattle.std.specs.Prelude.{◌≡◌, ◌++◌, ◌==◌, ◌<◌, ◌≤◌, ◌∷◌, [], All, IfOk, OnOk, get_or, if◌then◌else◌, length, map};
 ghost use Rattle.gb_defs.specs.Classes.{rows_below};
 ghost use Rattle.gb_defs.specs.Groups.{HasRowNumbers};
-ghost use Rattle.gb_paths.specs.Leaders.{AreLeaders, AreLeadersBy, put_at, same_leader};
+ghost use Rattle.gb_paths.specs.Leaders.{AreLeaders, put_at, same_leader};
 ghost use Rattle.gb_paths.specs.Numbering.{AreNumbersOf};
-ghost use Rattle.gb_paths.specs.Words.{AreBelow};
 
 use crate::row_numbers::RowNumbers;
 use gb_base::nullable_idx::IdxSize;
 use std::alloc::{AllocError, Global};
-
-// No place. There are fewer rows.
-const NONE: IdxSize = u32::MAX;
 
 /// Some of the rows, and of each the first row of its group: its leader.
 #[derive(Drop)]
@@ -61,44 +57,6 @@ fn push_number(
         of_rows.push(number)?;
         Ok(())
     }
-}
-
-/// The first place of the word that stands at each place, where all words are below a bound: a list has room for each
-/// word, so that none is sought.
-pub(crate) fn leaders_by_words(
-    alloc: Global,
-    words: &[u64],
-    bound: usize,
-) -> Result<Vec<IdxSize>, AllocError>
-    requires few { HasRowNumbers (length words.now) }
-    requires low { AreBelow bound words.now }
-    ensures { IfOk result (λ leaders. AreLeadersBy words.now leaders.items) }
-{
-    let mut firsts = no_places(alloc, bound)?;
-    let mut leaders = Vec::with_capacity(alloc, words.len())?;
-    for place in 0..words.len() {
-        let word = words[place] as usize;
-        let first = first_of(firsts[word], place as u32);
-        firsts[word] = first;
-        leaders.push_reserved(first);
-    }
-    Ok(leaders)
-}
-
-fn no_places(alloc: Global, count: usize) -> Result<Vec<IdxSize>, AllocError>
-    ensures { IfOk result (λ places. places.items ≡ replicate count 4294967295) }
-{
-    let mut places = Vec::new(alloc);
-    places.resize(count, NONE)?;
-    Ok(places)
-}
-
-// The place where a word stood first, or else this place.
-#[inline(always)]
-fn first_of(before: IdxSize, place: IdxSize) -> IdxSize
-    ensures { result ≡ (if before == 4294967295 then place else before) }
-{
-    if before == NONE { place } else { before }
 }
 
 /// Puts the leaders of some rows into the places of these rows.

@@ -12,6 +12,7 @@ pub mod group_by;
 pub mod into_groups;
 pub mod keys;
 mod leaders;
+mod number_listed;
 mod number_partitions;
 mod number_rows;
 mod number_several;

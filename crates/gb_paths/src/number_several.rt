@@ -12,13 +12,13 @@ ghost use Rattle.gb_rows.specs.Rows.{AreOfOneLength};
 ghost use Rattle.gb_series.specs.Series.{value_of};
 ghost use Rattle.gb_paths.specs.Keys.{HasValues, rows_of_keys};
 ghost use Rattle.gb_paths.specs.Numbering.{AreNumbersAmong, AreNumbersUnder, both_agree};
-ghost use Rattle.gb_paths.specs.Packed.{AreDigits, HasKeys, HasWords, HaveDigits, IsKeyOf, IsNumberedBy, IsPacked, NumbersKey};
+ghost use Rattle.gb_paths.specs.Packed.{AreDigits, HasKeys, HasWords, HaveDigits, IsKeyOf, IsNumberedBy, IsPacked, NumbersKey, words_in};
 ghost use Rattle.gb_paths.specs.Tuples.{slots_of};
 ghost use Rattle.gb_paths.specs.Words.{AreBelow, same_word};
 
 use crate::classes::number_keys;
 use crate::keys::{KeyColumn, Keys, with_rows};
-use crate::leaders::{leaders_by_words, number_leaders};
+use crate::number_listed::number_listed;
 use crate::number_rows::{has_many_groups, number_rows};
 use crate::row_numbers::RowNumbers;
 use gb_base::error::PolarsResult;
@@ -34,10 +34,19 @@ use std::thread::{self, Threads};
 // A list of so many words stays near.
 const LISTED_WORDS: u64 = 262_144;
 
+// A word of each row, in as little room as they fit.
+#[derive(Drop)]
+enum Words {
+    /// No digits: so many words that are zero.
+    None(usize),
+    Narrow(Vec<u32>),
+    Wide(Vec<u64>),
+}
+
 // A word of each row, below a bound: rows that agree have one word, and others do not.
 #[derive(Drop)]
 struct PackedRows {
-    words: Vec<u64>,
+    words: Words,
     below: u64,
 }
 
@@ -80,7 +89,10 @@ fn pack_keys<T: Threads + Sync>(
         (IsPacked (agree_by (slots_of keys)) (rows_below (frame_height keys)))) }
     ensures err { IfErr result IsNoMemory }
 {
-    let mut packed = no_digits(alloc, keys[0].len())?;
+    let mut packed = PackedRows {
+        words: Words::None(keys[0].len()),
+        below: 1,
+    };
     let mut place = 0;
     while place < keys.len() {
         let to = keys.len().min(place + pool.workers());
@@ -91,16 +103,6 @@ fn pack_keys<T: Threads + Sync>(
         place = to;
     }
     Ok(Some(packed))
-}
-
-// Words of rows without digits.
-fn no_digits(alloc: Global, rows: usize) -> Result<PackedRows, AllocError>
-    ensures words { IfOk result (λ packed. packed.words.items ≡ replicate rows 0) }
-    ensures below { IfOk result (λ packed. packed.below ≡ 1) }
-{
-    let mut words = Vec::new(alloc);
-    words.resize(rows, 0)?;
-    Ok(PackedRows { words, below: 1 })
 }
 
 // The words of the rows with their numbers by some keys more, each of which is read by a thread of its own, where there
@@ -114,10 +116,10 @@ fn pack_round<T: Threads + Sync>(
 ) -> PolarsResult<Option<PackedRows>>
     requires some { 0 < length keys.now }
     requires workers { length keys.now ≤ workers_of pool.now }
-    requires few { HasRowNumbers (length packed.words.items) }
-    requires low { AreBelow packed.below packed.words.items }
-    requires keyed { All (IsKeyOf (length packed.words.items)) (keys_in keys.now) }
-    ensures ok { let rows = rows_below (length packed.words.items) in (before : Frame)
+    requires few { HasRowNumbers (length (words_in packed.words)) }
+    requires low { AreBelow packed.below (words_in packed.words) }
+    requires keyed { All (IsKeyOf (length (words_in packed.words))) (keys_in keys.now) }
+    ensures ok { let rows = rows_below (length (words_in packed.words)) in (before : Frame)
         → IsPacked (agree_by (slots_of before)) rows packed → IfOk result (λ found.
         IfSome found (IsPacked (agree_by (slots_of (before ++ keys_in keys.now))) rows)) }
     ensures err { IfErr result IsNoMemory }
@@ -132,7 +134,7 @@ fn pack_round<T: Threads + Sync>(
         let Some(next) = numbers? else {
             return Ok(None);
         };
-        match pack_more(rt, alloc, packed, &next, pool)? {
+        match pack_more(rt, alloc, packed, next, pool)? {
             Some(more) => packed = more,
             None => return Ok(None),
         }
@@ -194,64 +196,93 @@ fn pack_more<T: Threads + Sync>(
     rt: &T,
     alloc: Global,
     packed: PackedRows,
-    next: &RowNumbers,
+    next: RowNumbers,
     pool: &Pool,
 ) -> PolarsResult<Option<PackedRows>>
-    requires few { HasRowNumbers (length packed.words.items) }
-    requires low { AreBelow packed.below packed.words.items }
-    requires long { length next.now.of_rows.items ≡ length packed.words.items }
-    ensures ok { let rows = rows_below (length packed.words.items) in (a b : ℕ → ℕ → Bool)
-        → IsEquivalence a → IsEquivalence b → IsPacked a rows packed
-        → AreNumbersUnder b rows next.now
+    requires few { HasRowNumbers (length (words_in packed.words)) }
+    requires low { AreBelow packed.below (words_in packed.words) }
+    requires long { length next.of_rows.items ≡ length (words_in packed.words) }
+    ensures ok { let rows = rows_below (length (words_in packed.words)) in (a b : ℕ → ℕ → Bool)
+        → IsEquivalence a → IsEquivalence b → IsPacked a rows packed → AreNumbersUnder b rows next
         → IfOk result (λ found. IfSome found (IsPacked (both_agree a b) rows)) }
     ensures words { IfOk result (λ found.
-        IfSome found (HasWords (length packed.words.items))) }
+        IfSome found (HasWords (length (words_in packed.words)))) }
     ensures err { IfErr result IsNoMemory }
 {
     let base = next.first.len() as u64;
     if let Some(below) = packed.below.checked_mul(base) {
-        return Ok(Some(with_digits(rt, packed, next, below, pool.workers())));
+        let more = with_digits(rt, alloc, packed, next, below, pool.workers())?;
+        return Ok(Some(more));
     }
     let numbers = number_words(rt, alloc, &packed, pool)?;
-    let fewer = pack_numbers(alloc, &numbers)?;
+    let fewer = pack_numbers(numbers);
     match fewer.below.checked_mul(base) {
-        Some(below) => Ok(Some(with_digits(rt, fewer, next, below, pool.workers()))),
+        Some(below) => {
+            let more = with_digits(rt, alloc, fewer, next, below, pool.workers())?;
+            Ok(Some(more))
+        }
         None => Ok(None),
+    }
+}
+
+// Numbers as words.
+fn pack_numbers(numbers: RowNumbers) -> PackedRows
+    ensures words { words_in result.words ≡ numbers.of_rows.items }
+    ensures below { result.below ≡ length numbers.first.items }
+{
+    let RowNumbers { first, of_rows } = numbers;
+    PackedRows {
+        words: Words::Narrow(of_rows),
+        below: first.len() as u64,
     }
 }
 
 // The words with numbers for their last digits, which are below a bound then.
 fn with_digits<T: Threads + Sync>(
     rt: &T,
-    mut packed: PackedRows,
-    next: &RowNumbers,
+    alloc: Global,
+    packed: PackedRows,
+    next: RowNumbers,
     below: u64,
     workers: usize,
-) -> PackedRows
+) -> Result<PackedRows, AllocError>
     requires some { 0 < workers }
-    requires low { AreBelow packed.below packed.words.items }
-    requires room { below ≡ packed.below * length next.now.first.items }
-    requires long { length next.now.of_rows.items ≡ length packed.words.items }
-    ensures below { result.below ≡ below }
-    ensures digits { HaveDigits (length next.now.first.items) packed.words.items
-        next.now.of_rows.items result.words.items }
+    requires low { AreBelow packed.below (words_in packed.words) }
+    requires room { below ≡ packed.below * length next.first.items }
+    requires long { length next.of_rows.items ≡ length (words_in packed.words) }
+    ensures below { IfOk result (λ more. more.below ≡ below) }
+    ensures digits { IfOk result (λ more. HaveDigits (length next.first.items)
+        (words_in packed.words) next.of_rows.items (words_in more.words)) }
 {
     let base = next.first.len() as u64;
-    push_digits(rt, &mut packed.words, &next.of_rows, base, workers);
-    packed.below = below;
-    packed
+    let words = match packed.words {
+        Words::None(_) => Words::Narrow(next.of_rows),
+        Words::Narrow(words) => more_digits(rt, alloc, words, &next.of_rows, base, below, workers)?,
+        Words::Wide(words) => Words::Wide(wide_digits(rt, words, &next.of_rows, base, workers)),
+    };
+    Ok(PackedRows { words, below })
 }
 
-// Numbers as words.
-fn pack_numbers(alloc: Global, numbers: &RowNumbers) -> Result<PackedRows, AllocError>
-    ensures words { IfOk result (λ packed. packed.words.items ≡ numbers.now.of_rows.items) }
-    ensures below { IfOk result (λ packed. packed.below ≡ length numbers.now.first.items) }
+// Narrow words, each with a digit behind its own: wide ones where these are not below so much.
+fn more_digits<T: Threads + Sync>(
+    rt: &T,
+    alloc: Global,
+    words: Vec<u32>,
+    digits: &[u32],
+    base: u64,
+    below: u64,
+    workers: usize,
+) -> Result<Words, AllocError>
+    requires some { 0 < workers }
+    requires many { length digits.now ≡ length words.items }
+    requires room { AreDigits below base words.items digits.now }
+    ensures { IfOk result (λ more. HaveDigits base words.items digits.now (words_in more)) }
 {
-    let words = words_of(alloc, &numbers.of_rows)?;
-    Ok(PackedRows {
-        words,
-        below: numbers.first.len() as u64,
-    })
+    if below <= 4_294_967_296 {
+        return Ok(Words::Narrow(narrow_digits(rt, words, digits, base, workers)));
+    }
+    let wide = words_of(alloc, &words)?;
+    Ok(Words::Wide(wide_digits(rt, wide, digits, base, workers)))
 }
 
 fn words_of(alloc: Global, numbers: &[u32]) -> Result<Vec<u64>, AllocError>
@@ -265,17 +296,39 @@ fn words_of(alloc: Global, numbers: &[u32]) -> Result<Vec<u64>, AllocError>
 }
 
 // Puts a digit behind those of each word.
-fn push_digits<T: Threads + Sync>(
+fn narrow_digits<T: Threads + Sync>(
     rt: &T,
-    words: &mut [u64],
+    mut words: Vec<u32>,
     digits: &[u32],
     base: u64,
     workers: usize,
-)
+) -> Vec<u32>
     requires some { 0 < workers }
-    requires many { length digits.now ≡ length words.old }
-    requires room { AreDigits base words.old digits.now }
-    ensures { HaveDigits base words.old digits.now words.new }
+    requires many { length digits.now ≡ length words.items }
+    requires room { AreDigits 4294967296 base words.items digits.now }
+    ensures { HaveDigits base words.items digits.now result.items }
+{
+    let push = |place: usize, word: &mut u32|
+        requires { (place < length digits.now)
+            × (word.now * base + get_or digits.now place 0 ≤ 4294967295) }
+        ensures { word.exit.now
+            ≡ word.entry.now * base + get_or digits.entry.now place 0 }
+    { *word = (u64::from(*word) * base + u64::from(digits[place])) as u32 };
+    thread::for_each_mut(rt, &mut words, workers, &push);
+    words
+}
+
+fn wide_digits<T: Threads + Sync>(
+    rt: &T,
+    mut words: Vec<u64>,
+    digits: &[u32],
+    base: u64,
+    workers: usize,
+) -> Vec<u64>
+    requires some { 0 < workers }
+    requires many { length digits.now ≡ length words.items }
+    requires room { AreDigits 18446744073709551616 base words.items digits.now }
+    ensures { HaveDigits base words.items digits.now result.items }
 {
     let push = |place: usize, word: &mut u64|
         requires { (place < length digits.now)
@@ -283,10 +336,11 @@ fn push_digits<T: Threads + Sync>(
         ensures { word.exit.now
             ≡ word.entry.now * base + get_or digits.entry.now place 0 }
     { *word = *word * base + u64::from(digits[place]) };
-    thread::for_each_mut(rt, words, workers, &push);
+    thread::for_each_mut(rt, &mut words, workers, &push);
+    words
 }
 
-// The numbers of places by the words that stand there: by a list with room for each word, where these are few.
+// The numbers of places by the words that stand there.
 #[tactic(auto, using(crate::proofs::PackLemmas::words_few))]
 fn number_words<T: Threads + Sync>(
     rt: &T,
@@ -294,16 +348,50 @@ fn number_words<T: Threads + Sync>(
     packed: &PackedRows,
     pool: &Pool,
 ) -> PolarsResult<RowNumbers>
-    requires few { HasRowNumbers (length packed.now.words.items) }
-    requires low { AreBelow packed.now.below packed.now.words.items }
-    ensures ok { let words = packed.now.words.items in
+    requires few { HasRowNumbers (length (words_in packed.now.words)) }
+    requires low { AreBelow packed.now.below (words_in packed.now.words) }
+    ensures ok { let words = words_in packed.now.words in
         IfOk result (AreNumbersUnder (same_word words) (rows_below (length words))) }
     ensures err { IfErr result IsNoMemory }
 {
-    let words = packed.words.as_slice();
-    if packed.below <= LISTED_WORDS && packed.below < words.len() as u64 / 4 {
-        let leaders = leaders_by_words(alloc, words, packed.below as usize)?;
-        let numbers = number_leaders(alloc, &leaders)?;
+    match &packed.words {
+        Words::None(rows) => {
+            let words = no_digits(alloc, *rows)?;
+            number_narrow(rt, alloc, &words, 1, pool)
+        }
+        Words::Narrow(words) => number_narrow(rt, alloc, words, packed.below, pool),
+        Words::Wide(words) => {
+            let rows = SliceRows::new(words.as_slice(), SeedMixer::new(pool.seed()));
+            number_rows(rt, alloc, &rows, pool)
+        }
+    }
+}
+
+fn no_digits(alloc: Global, rows: usize) -> Result<Vec<u32>, AllocError>
+    ensures { IfOk result (λ words. words.items ≡ replicate rows 0) }
+{
+    let mut words = Vec::new(alloc);
+    words.resize(rows, 0)?;
+    Ok(words)
+}
+
+// The same by narrow words: by a list with room for each word, where these are few.
+#[tactic(auto, using(crate::proofs::PackLemmas::words_few))]
+fn number_narrow<T: Threads + Sync>(
+    rt: &T,
+    alloc: Global,
+    words: &[u32],
+    below: u64,
+    pool: &Pool,
+) -> PolarsResult<RowNumbers>
+    requires few { HasRowNumbers (length words.now) }
+    requires low { AreBelow below words.now }
+    ensures ok { IfOk result
+        (AreNumbersUnder (same_word words.now) (rows_below (length words.now))) }
+    ensures err { IfErr result IsNoMemory }
+{
+    if below <= LISTED_WORDS && below < words.len() as u64 / 4 {
+        let numbers = number_listed(alloc, words, below as usize)?;
         return Ok(numbers);
     }
     let rows = SliceRows::new(words, SeedMixer::new(pool.seed()));

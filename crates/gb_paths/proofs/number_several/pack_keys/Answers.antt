@@ -5,7 +5,7 @@ use Rattle.gb_defs.specs.Column.{Frame, frame_height}
 use Rattle.gb_defs.specs.Groups.{HasRowNumbers}
 use Rattle.gb_rows.specs.Lent.{keys_in}
 use Rattle.gb_series.specs.Series.{value_of}
-use Rattle.gb_paths.specs.Packed.{ArePacked, IsKeyOf, IsPacked}
+use Rattle.gb_paths.specs.Packed.{IsKeyOf, IsPacked, words_in}
 use Rattle.gb_paths.specs.Tuples.{slots_of}
 use Rattle.gb_paths.proofs.PackLemmas.{all_keyed, packed_none, part_behind, part_has}
 use Rattle.gb_paths.proofs.SeveralLemmas.{first_lent}
@@ -15,12 +15,10 @@ pub loop-place-init : goal.loop-place-init
 loop-place-init g c =
     let lent = c.args.keys.now in
     let n = frame_height (keys_in lent) in
-    let packed = c.in_ok-packed.packed in
     let many : c.len.result ≡ n = c.len.ensures.value ∙ ap (λ key. length (value_of key.now).slots) c.index-keys-0.is ∙ first_lent lent c.index-keys-0.result c.requires.some in
     record {
       within = omega arith;
-      so_far = subst (λ (m : ℕ). ArePacked (agree_by []) (rows_below n) packed.words.items m) (sym c.in_ok-packed.ensures.below)
-          (packed_none n packed.words.items (c.in_ok-packed.ensures.words ∙ ap (λ m. replicate m 0) many));
+      so_far = rw many (packed_none n);
     }
 
 pub pack_round-requires-clause-few : goal.pack_round-requires-clause-few
@@ -46,11 +44,11 @@ loop-place-preserved g c =
     let from = c.loop-place.place in
     let to = c.min-to.result in
     let packed = c.loop-place.packed in
-    let many : length packed.words.items ≡ n = c.loop-place.invariant.so_far.many ∙ length-range_with_len 0 n in
+    let many : length (words_in packed.words) ≡ n = c.loop-place.invariant.so_far.many ∙ length-range_with_len 0 n in
     let within : to ≤ length lent = omega (arith, c.min-to.ensures) in
     let onward : from ≤ to = omega (arith, c.min-to.ensures, c.loop-place.invariant.within) in
-    let mine : IsPacked (agree_by (slots_of (take from keys))) (rows_below (length packed.words.items)) packed = rw many c.loop-place.invariant.so_far in
-    let made : IsPacked (agree_by (slots_of (take from keys ++ keys_in (take (to - from) (drop from lent))))) (rows_below (length packed.words.items)) c.in-Some.more =
+    let mine : IsPacked (agree_by (slots_of (take from keys))) (rows_below (length (words_in packed.words))) packed = rw many c.loop-place.invariant.so_far in
+    let made : IsPacked (agree_by (slots_of (take from keys ++ keys_in (take (to - from) (drop from lent))))) (rows_below (length (words_in packed.words))) c.in-Some.more =
     rw c.in-Some.is at (c.in_ok-more.ensures.ok (take from keys) mine) in
     record {
       within = within;
