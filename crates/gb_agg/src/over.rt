@@ -1,6 +1,6 @@
 //! What columns are aggregated over: groups with their rows, or the number of each row's group.
 
-ghost use Rattle.std.specs.Prelude.{◌≡◌, All, IfErr, IfOk, None, OnOk, length};
+ghost use Rattle.std.specs.Prelude.{◌≡◌, ◌≤◌, All, IfErr, IfOk, None, OnOk, length};
 ghost use Rattle.gb_defs.specs.ColumnType.{ListOf, uint32};
 ghost use Rattle.gb_defs.specs.Groups.{HasRowNumbers, lists_in};
 ghost use Rattle.gb_base.specs.PlSmallStr.{IsNoMemory, name_of};
@@ -33,7 +33,24 @@ pub enum Over<'a> {
     Numbers(&'a RowNumbers),
 }
 
+// For fewer rows a worker no thread is started.
+const SHARE_ROWS: usize = 65_536;
+
 impl<'a> Over<'a> {
+    /// How many aggregates are best made at a time: as many as there are workers where each is made by one of
+    /// them, and one where all of them share it.
+    pub fn at_once(&self, pool: &Pool) -> usize
+        ensures { 1 ≤ result }
+    {
+        match self {
+            Over::Groups(_) => 1,
+            Over::Numbers(numbers) => {
+                let rows = numbers.of_rows.len();
+                pool.workers().min(rows / SHARE_ROWS).max(1)
+            }
+        }
+    }
+
     /// The rows of each group as a list.
     pub fn row_lists(&self, alloc: Global, name: PlSmallStr) -> PolarsResult<Series>
         requires takes { Takes self.now Groups }

@@ -6,4 +6,5 @@ pub mod KeyLemmas
 pub mod NamedColumnsLemmas
 pub mod OverLemmas
 pub mod PartLemmas
+pub mod RoundLemmas
 pub mod StretchLemmas

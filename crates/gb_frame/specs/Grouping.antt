@@ -1,19 +1,23 @@
 -- The columns of an answer over the groups that were found.
-use Rattle.std.specs.Prelude.{◌≡◌, ℕ, ◌<◌, All, List, [], ◌∷◌, ◌++◌, length, map, Option, None, false, true, is_none, if◌then◌else◌}
+use Rattle.std.specs.Prelude.{◌≡◌, ℕ, ◌<◌, All, IfErr, IfOk, List, [], ◌∷◌, ◌++◌, OnOk, Result, get_or, length, map, take, Option, None, false, true, is_none, if◌then◌else◌}
 use Rattle.std.specs.Borrow.{Bor}
 use Rattle.gb_defs.specs.Column.{ColumnValue, Content, Frame, IsFrame, content, find_column, taken}
 use Rattle.gb_defs.specs.Fold.{Method}
 use Rattle.gb_defs.specs.Answer.{aggregated}
-use Rattle.gb_defs.specs.Fault.{Fault, is_groups, unfit_at, unfit_or}
+use Rattle.gb_defs.specs.Fault.{Fault, is_groups, unfit_at, unfit_fault, unfit_or}
 use Rattle.gb_defs.specs.Groups.{AreMembers, Grouping, HasRowNumbers, first_of, lists_in}
 use Rattle.gb_base.specs.PlSmallStr.{name_of}
+use Rattle.gb_base.specs.PolarsError.{Explains}
+use Rattle.gb_base.specs.declared.error.PolarsError.{PolarsError}
 use Rattle.gb_series.specs.Frame.{missing_column}
 use Rattle.gb_series.specs.Series.{value_of}
 use Rattle.gb_series.specs.declared.series.Series.{Series}
+use Rattle.gb_frame.specs.Agg.{agg_of, aggs_of}
 use Rattle.gb_frame.specs.declared.agg.Agg.{Agg}
 use Rattle.gb_paths.specs.declared.classes.Classes.{Classes}
 use Rattle.gb_paths.specs.declared.classes.Classes.TheVariants as classes
 use Rattle.gb_agg.specs.Method.{goes_by_numbers, method_of}
+use Rattle.gb_agg.specs.Over.{grouping_over}
 use Rattle.gb_agg.specs.declared.over.Over.{Over}
 use Rattle.gb_agg.specs.declared.over.Over.TheVariants as over
 
@@ -85,3 +89,15 @@ pub record IsGrouping (frame keys : Frame) (g : Grouping) : Type 0 where
 abbrev pub AreMadeOver : Frame → List Agg → Classes → Type 0
 AreMadeOver frame aggs (classes.Groups groups) = Unit {0}
 AreMadeOver frame aggs (classes.Numbers numbers) = All (λ agg. goes_by_numbers agg.method ≡ true) aggs × HasHeight frame (length numbers.of_rows.items)
+
+-- so many of the aggregates were made, and none of them was refused
+pub record AreMadeTo (frame : Frame) (over : Over) (aggs : List Agg) (count : ℕ) (columns : List Series) : Type 0 where
+  pub parts : contents_of columns ≡ aggregates_over frame (aggs_of (take count aggs)) (lists_in (grouping_over over))
+  pub fit : unfit_fault frame (aggs_of (take count aggs)) ≡ None
+
+-- the aggregate at a place was made, or refused for its cause
+pub record MakesAt (frame : Frame) (over : Over) (aggs : List Agg) (place : ℕ) (made : Result Series PolarsError) : Type 0 where
+  pub ok : (d : Agg) → let agg = get_or aggs place d in
+      IfOk made (λ s. content (value_of s) ≡ aggregated (agg_of agg) (find_column frame (name_of agg.column)) (lists_in (grouping_over over)))
+  pub fits : (d : Agg) → OnOk made (unfit_cause frame (get_or aggs place d) ≡ None)
+  pub err : (d : Agg) → IfErr made (λ e. Explains e (unfit_cause frame (get_or aggs place d)))

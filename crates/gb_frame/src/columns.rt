@@ -1,6 +1,6 @@
 //! The columns of an answer: the keys at the first rows of groups, and the aggregates over their rows.
 
-ghost use Rattle.std.specs.Prelude.{◌≡◌, ◌+◌, ◌≤◌, All, drop, length, take, None, false, is_none, map, IfErr, IfOk, OnOk};
+ghost use Rattle.std.specs.Prelude.{◌≡◌, ◌+◌, ◌<◌, ◌≤◌, All, drop, length, take, None, false, is_none, map, IfErr, IfOk, OnOk};
 ghost use Rattle.std.specs.Bool.{OnTrue};
 ghost use Rattle.gb_base.specs.PlSmallStr.{IsNoMemory, name_of};
 ghost use Rattle.gb_base.specs.PolarsError.{Explains};
@@ -13,7 +13,7 @@ ghost use Rattle.gb_rows.specs.Lent.{keys_in};
 ghost use Rattle.gb_series.specs.Series.{value_of};
 ghost use Rattle.gb_agg.specs.Over.{Takes, grouping_over};
 ghost use Rattle.gb_frame.specs.Agg.{agg_of, aggs_of};
-ghost use Rattle.gb_frame.specs.Grouping.{AreGroupsIn, HasColumn, HasRows, NumberRowsIn, taken_at, aggregates_over, contents_of, firsts_in, unfit_cause};
+ghost use Rattle.gb_frame.specs.Grouping.{AreGroupsIn, AreMadeTo, HasColumn, HasRows, MakesAt, NumberRowsIn, taken_at, aggregates_over, contents_of, firsts_in, unfit_cause};
 
 use crate::agg::Agg;
 use crate::named_columns::NamedColumns;
@@ -27,7 +27,7 @@ use gb_flat::shares::{join_shares, map_shares};
 use gb_groups::view::GroupsView;
 use gb_series::series::Series;
 use std::alloc::{AllocError, Global};
-use std::thread::Threads;
+use std::thread::{self, Threads};
 
 // For fewer rows no thread is started to take keys at them.
 const SHARE_ROWS: usize = 65_536;
@@ -134,7 +134,7 @@ pub(crate) fn first_rows(alloc: Global, groups: &GroupsView<'_>) -> Result<Vec<I
     Ok(rows)
 }
 
-// The aggregates over the rows of each group.
+// The aggregates over the rows of each group, some of them at a time.
 pub(crate) fn aggregates<R: Threads + Sync>(
     rt: &R,
     alloc: Global,
@@ -152,11 +152,83 @@ pub(crate) fn aggregates<R: Threads + Sync>(
     ensures fits { OnOk result (unfit_fault frame.now (aggs_of aggs.now) ≡ None) }
     ensures err { IfErr result (λ e. Explains e (unfit_fault frame.now (aggs_of aggs.now))) }
 {
+    let at_once = over.at_once(pool);
     let mut columns = Vec::with_capacity(alloc, aggs.len())?;
-    for agg in aggs {
-        columns.push(agg_column(rt, alloc, frame, agg, over, pool)?)?;
+    let mut place = 0;
+    while place < aggs.len() {
+        let count = at_once.min(aggs.len() - place);
+        push_aggregates(
+            rt,
+            alloc,
+            frame,
+            aggs,
+            (place, count),
+            over,
+            pool,
+            &mut columns,
+        )?;
+        place += count;
     }
     Ok(columns)
+}
+
+// Those of a range, its first and how many they are, behind those before, each in a thread of its own where there are
+// several.
+fn push_aggregates<R: Threads + Sync>(
+    rt: &R,
+    alloc: Global,
+    frame: &NamedColumns<'_>,
+    aggs: &[Agg],
+    range: (usize, usize),
+    over: &Over<'_>,
+    pool: &Pool,
+    columns: &mut Vec<Series>,
+) -> PolarsResult<()>
+    requires inside { range.0 + range.1 ≤ length aggs.now }
+    requires groups { AreGroupsIn frame.now (grouping_over over.now) }
+    requires takes { All (λ agg. Takes over.now agg.method) aggs.now }
+    requires rows { NumberRowsIn frame.now over.now }
+    requires found { missing_fault frame.now (aggs_of aggs.now) ≡ None }
+    requires before { AreMadeTo frame.now over.now aggs.now range.0 columns.old.items }
+    ensures ok { OnOk result
+        (AreMadeTo frame.now over.now aggs.now (range.0 + range.1) columns.new.items) }
+    ensures err { IfErr result (λ e. Explains e (unfit_fault frame.now (aggs_of aggs.now))) }
+{
+    let (first, count) = range;
+    let part = |k: usize| -> PolarsResult<Series>
+        requires { (first + k < length aggs.now)
+            × AreGroupsIn frame.now (grouping_over over.now)
+            × All (λ agg. Takes over.now agg.method) aggs.now
+            × NumberRowsIn frame.now over.now
+            × (missing_fault frame.now (aggs_of aggs.now) ≡ None) }
+        ensures { MakesAt frame.entry.now over.entry.now aggs.entry.now (first + k) result }
+    { aggregate_at(rt, alloc, frame, aggs, first + k, over, pool) };
+    let found = thread::map_indices(rt, alloc, count, &part)?;
+    for column in found {
+        let made = column?;
+        columns.push(made)?;
+    }
+    Ok(())
+}
+
+// The one at a place.
+fn aggregate_at<R: Threads + Sync>(
+    rt: &R,
+    alloc: Global,
+    frame: &NamedColumns<'_>,
+    aggs: &[Agg],
+    place: usize,
+    over: &Over<'_>,
+    pool: &Pool,
+) -> PolarsResult<Series>
+    requires inside { place < length aggs.now }
+    requires groups { AreGroupsIn frame.now (grouping_over over.now) }
+    requires takes { All (λ agg. Takes over.now agg.method) aggs.now }
+    requires rows { NumberRowsIn frame.now over.now }
+    requires found { missing_fault frame.now (aggs_of aggs.now) ≡ None }
+    ensures { MakesAt frame.now over.now aggs.now place result }
+{
+    agg_column(rt, alloc, frame, &aggs[place], over, pool)
 }
 
 // An aggregate over the rows of each group.

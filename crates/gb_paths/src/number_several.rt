@@ -124,7 +124,9 @@ fn pack_round<T: Threads + Sync>(
         IfSome found (IsPacked (agree_by (slots_of (before ++ keys_in keys.now))) rows)) }
     ensures err { IfErr result IsNoMemory }
 {
-    let each = Pool::new(pool.workers() / keys.len(), 1, 1, 1, pool.seed());
+    // Two shares of a key's rows for each of its workers: one that is held up is not waited for long.
+    let shares = pool.workers().min(pool.workers() * 2 / keys.len());
+    let each = Pool::new(shares, 1, 1, 1, pool.seed());
     let number = |k: usize| -> PolarsResult<Option<RowNumbers>>
         requires { (k < length keys.now) × All HasKeys (keys_in keys.now) }
         ensures { NumbersKey keys.entry.now k result }

@@ -18,12 +18,16 @@ use gb_base::standard::{StderrSink, StdinSource, StdoutSink};
 use gb_run::limits::Limits;
 use gb_run::run::run;
 use gb_text::status::Status;
+use std::alloc::Global;
 use std::env;
 use std::io::ErrorKind;
 use std::process::ExitCode;
 use std::random::RandomSource;
 
 const INPUT_BYTES: u64 = 268_435_456;
+
+// A little less than the most that the allocator takes for it.
+const KEPT_BYTES: usize = 33_000_000;
 
 // Bits that nobody knows before the run: none where the system gives none.
 fn salt(rt: &HostRuntime) -> u64 {
@@ -43,7 +47,15 @@ fn words_of(rt: &HostRuntime) -> Result<Vec<String>, Status> {
     }
 }
 
+// Has the C library's allocator keep what is let go of and give it again. It does so up to the largest room that it
+// saw let go of, and takes new pages from the system for each that is larger, which cost as much as what they hold.
+fn keep_rooms(alloc: Global) {
+    // Where there is no such room, nothing is kept.
+    let _ = Vec::<u8>::with_capacity(alloc, KEPT_BYTES);
+}
+
 fn main(rt: HostRuntime) -> ExitCode {
+    keep_rooms(rt.alloc());
     let words = match words_of(&rt) {
         Ok(words) => words,
         Err(status) => return ExitCode::from(status.code()),

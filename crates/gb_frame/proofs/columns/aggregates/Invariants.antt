@@ -1,14 +1,12 @@
-use Rattle.std.proofs.Common.{◌≡◌, take, None}
-use Rattle.gb_defs.specs.Groups.{lists_in}
-use Rattle.gb_agg.specs.Over.{grouping_over}
-use Rattle.gb_frame.specs.Grouping.{aggregates_over, unfit_cause}
-use Rattle.gb_frame.specs.Agg.{aggs_of}
-use Rattle.gb_frame.specs.Grouping.{contents_of}
-use Rattle.gb_frame.proofs.CauseLemmas.{first_cause}
+use Rattle.std.proofs.Common.{◌≤◌, ◌-◌, length}
+use Rattle.gb_frame.specs.Grouping.{AreMadeTo}
 use Rattle.gb_frame.proofs.columns.aggregates.Given as goal
 
-abbrev pub invariant-loop-agg : goal.invariant-loop-agg
-invariant-loop-agg g l = record {
-  parts : contents_of l.columns.items ≡ aggregates_over l.frame (aggs_of (take l.agg-index l.aggs)) (lists_in (grouping_over l.over));
-  fit : first_cause (unfit_cause l.frame) (take l.agg-index l.aggs) ≡ None;
+abbrev pub invariant-loop-place : goal.invariant-loop-place
+invariant-loop-place g l = record {
+  within : l.place ≤ length l.aggs;
+  so_far : AreMadeTo l.frame l.over l.aggs l.place l.columns.items;
 }
+
+abbrev pub decreases-loop-place : goal.decreases-loop-place
+decreases-loop-place g l = length l.aggs - l.place
