@@ -7,7 +7,7 @@ from programs import BASELINE
 from report import names_of
 
 WIDTH = 860
-LEFT = 210
+LEFT = 250
 RIGHT = 70
 LEGEND_TOP = 56
 LEGEND_LINE = 20

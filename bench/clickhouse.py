@@ -9,7 +9,17 @@ import tempfile
 import time
 
 from quiet import quietly
+from tables import WITHOUT_NULLS
 
+# What each method makes of a column, by group.
+METHODS = {
+    "sum": "sum(toInt64OrZero({0}))",
+    "min": "min(toInt64OrNull({0}))",
+    "max": "max(toInt64OrNull({0}))",
+    "count": "count()",
+    "valid": "countIf({0} != '')",
+    "n_unique": "uniqExact({0})",
+}
 TICKS = os.sysconf("SC_CLK_TCK")
 SECONDS_TO_START = 20
 CONFIGURATION = """<yandex>
@@ -55,20 +65,17 @@ def by_place(words):
 
 def structure(case):
     """The columns. Those that hold nulls are read as texts."""
-    texts = ("day", *case.key_names, "city", "amount")
-    return ", ".join(f"{name} {'String' if name in texts else 'Int64'}" for name in case.columns)
+    return ", ".join(f"{name} {'Int64' if name in WITHOUT_NULLS else 'String'}" for name in case.columns)
 
 
 def query(case, source):
     """The columns of the groups have other names than those of the table."""
-    keys = {f"k{number}": key for number, key in enumerate(case.keys)}
-    made = {name: f"toInt64OrNull({key.name})" if key.is_whole else key.name for name, key in keys.items()}
-    made["s"] = "sum(toInt64OrZero(amount))"
-    if case.counted:
-        made["c"] = "count()"
-    columns = ", ".join(f"{value} as {name}" for name, value in made.items())
+    keys = [f"toInt64OrNull({key.name})" if key.is_whole else key.name for key in case.keys]
+    keys = {f"k{place}": key for place, key in enumerate(keys)}
+    folds = {f"f{place}": METHODS[method].format(column) for place, (method, column) in enumerate(case.folds)}
+    columns = ", ".join(f"{value} as {name}" for name, value in (keys | folds).items())
     groups = f"select {columns} from {source} group by {', '.join(keys)}"
-    answer = ", ".join(f"ifNull(toString({name}), '')" if name in keys else name for name in made)
+    answer = ", ".join(f"ifNull(toString({name}), '')" for name in keys | folds)
     return f"select {answer} from ({groups}) format CSVWithNames"
 
 

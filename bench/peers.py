@@ -6,20 +6,61 @@ import sys
 
 import clickhouse
 from quiet import quietly
+from r_packages import PACKAGES, has_packages
+from tables import WHOLE, WITHOUT_NULLS
 
 PYTHONS = [sys.executable, "/usr/bin/python3"]
-PACKAGES = {"data.table": ["data.table"], "collapse": ["data.table", "collapse"]}
+MLR = ["mlr", "--icsv", "--ocsv"]
+
+# What each method of an aggregate is to a program. To awk it is what a row does to the total of its group, which
+# has one from then on, and the form in which that is printed.
+AWK_METHODS = {
+    "sum": ("{total} += ${column}", "%.0f"),
+    "min": ('if (({total} == "" || ${column} < {total}) && ${column} != "") {total} = ${column} + 0', "%s"),
+    "max": ('if (({total} == "" || ${column} > {total}) && ${column} != "") {total} = ${column} + 0', "%s"),
+    "count": ("{total}++", "%d"),
+    "valid": ('{total} += ${column} != ""', "%d"),
+    "n_unique": ("{total} += !seen{column}[key, ${column}]++", "%d"),
+}
+DATAMASH_METHODS = {
+    "sum": "sum",
+    "min": "min",
+    "max": "max",
+    "count": "count",
+    "valid": "count",
+    "n_unique": "countunique",
+}
+# mlr passes nulls over, and counts them apart.
+MLR_METHODS = {
+    "sum": ["sum"],
+    "min": ["min"],
+    "max": ["max"],
+    "count": ["count"],
+    "valid": ["count"],
+    "n_unique": ["distinct_count", "null_count"],
+}
+SQLITE3_METHODS = {
+    "sum": "coalesce(sum(nullif({0}, '')), 0)",
+    "min": "min(nullif({0}, ''))",
+    "max": "max(nullif({0}, ''))",
+    "count": "count(*)",
+    "valid": "count(nullif({0}, ''))",
+    "n_unique": "count(distinct {0})",
+}
+# With the type of the answer, since what may be null is floating.
+PANDAS_METHODS = {
+    "sum": ("groups['{0}'].sum()", "int64"),
+    "min": ("groups['{0}'].min()", "Int64"),
+    "max": ("groups['{0}'].max()", "Int64"),
+    "count": ("groups.size()", "int64"),
+    "valid": ("groups['{0}'].count()", "int64"),
+    "n_unique": ("groups['{0}'].nunique(dropna=False)", "int64"),
+}
 
 
 @functools.cache
 def python_with_pandas():
     return next((path for path in PYTHONS if quietly([path, "-c", "import pandas"]) is not None), None)
-
-
-@functools.cache
-def has_packages(name):
-    loads = "; ".join(f"library({package})" for package in PACKAGES[name])
-    return quietly(["Rscript", "--vanilla", "-e", loads]) is not None
 
 
 def is_installed(name):
@@ -46,103 +87,79 @@ def version(name):
 def awk(name, table):
     case = table.case
     key = ' "," '.join(f"${case.number(key)}" for key in case.key_names)
-    count, form, counted = ("counts[key]++", ",%d", ", counts[key]") if case.counted else ("", "", "")
-    row = f"NR > 1 {{ key = {key}; sums[key] += ${case.number('amount')}; {count} }}"
-    end = f'END {{ for (key in sums) printf "%s,%.0f{form}\\n", key, sums[key]{counted} }}'
+    updates, forms, totals = [], ["%s"], ["key"]
+    for place, (method, column) in enumerate(case.folds):
+        update, form = AWK_METHODS[method]
+        totals.append(f"totals{place}[key]")
+        updates.append(update.format(total=totals[-1], column=case.number(column)))
+        forms.append(form)
+    row = f"NR > 1 {{ key = {key}; {'; '.join(updates or ['totals0[key]'])} }}"
+    end = f'END {{ for (key in totals0) printf "{",".join(forms)}\\n", {", ".join(totals)} }}'
     return [name, "-F,", f"{row} {end}"]
 
 
 def datamash(table):
+    """Nulls are passed over where numbers are asked, and are values like others where none are, so that no case
+    may ask both. Keys alone are one field to it, which has no tab."""
     case = table.case
-    sort = [] if case.in_order else ["--sort"]
     keys = ",".join(str(case.number(name)) for name in case.key_names)
-    count = ["count", str(case.number("quantity"))] if case.counted else []
-    group = ["--group", keys, "sum", str(case.number("amount")), *count]
-    return ["datamash", "--field-separator=,", "--header-in", "--narm", *sort, *group]
+    if not case.folds:
+        return ["sh", "-c", f"cut -d, -f{keys} | datamash --header-in rmdup 1"]
+    sort = [] if case.in_order else ["--sort"]
+    nulls = [] if case.methods <= {"count", "n_unique"} else ["--narm"]
+    group = ["--group", keys]
+    for method, column in case.folds:
+        group += [DATAMASH_METHODS[method], str(case.number(column))]
+    return ["datamash", "--field-separator=,", "--header-in", *nulls, *sort, *group]
 
 
 def mlr(table):
     case = table.case
-    keys = ",".join(f"{key.name}:{key.type}" for key in case.keys)
-    methods, columns = ("sum,count", "amount:i64,quantity:i64") if case.counted else ("sum", "amount:i64")
-    count = ",quantity:i64_count" if case.counted else ""
-    stats = ["stats1", "-a", methods, "-f", columns, "-g", keys]
-    cut = ["cut", "-o", "-f", f"{keys},amount:i64_sum{count}"]
-    return ["mlr", "--icsv", "--ocsv", *stats, "then", *cut]
+    keys = ",".join(map(case.field, case.key_names))
+    if not case.folds:
+        return [*MLR, "count-distinct", "-f", keys, "then", "cut", "-o", "-f", keys]
+    folds = [(method, case.field(column)) for method, column in case.folds]
+    methods = ",".join(dict.fromkeys(word for method, _ in folds for word in MLR_METHODS[method]))
+    fields = ",".join(dict.fromkeys(field for _, field in folds))
+    with_null = [
+        f"${{{field}_distinct_count}} += ${{{field}_null_count}} > 0 ? 1 : 0"
+        for method, field in folds
+        if method == "n_unique"
+    ]
+    put = ["put", "; ".join(with_null), "then"] if with_null else []
+    answer = ",".join([keys, *(f"{field}_{MLR_METHODS[method][0]}" for method, field in folds)])
+    return [*MLR, "stats1", "-a", methods, "-f", fields, "-g", keys, "then", *put, "cut", "-o", "-f", answer]
 
 
 def sqlite3(table):
     case = table.case
-    texts = {"day", "city", *(key.name for key in case.keys if not key.is_whole)}
-    columns = ", ".join(f"{name} {'text' if name in texts else 'integer'}" for name in case.columns)
-    keys = ", ".join(case.key_names)
-    count = ", count(*)" if case.counted else ""
-    query = f"select {keys}, coalesce(sum(nullif(amount, '')), 0){count} from sales group by {keys}"
+    types = case.types.items()
+    columns = ", ".join(f"{name} {'integer' if word in WHOLE else 'text'}" for name, word in types)
+    answer = [*case.key_names, *(SQLITE3_METHODS[method].format(column) for method, column in case.folds)]
+    query = f"select {', '.join(answer)} from sales group by {', '.join(case.key_names)}"
     load = [f"create table sales({columns})", f".import --csv --skip 1 '{table.path}' sales"]
     return ["sqlite3", "-batch", ":memory:", *load, ".mode csv", query]
 
 
 def pandas(table):
-    """Whole keys are floating while they are read, since a column of them has nulls."""
+    """Whole numbers are floating while they are read, where a column of them has nulls."""
     case = table.case
-    types = {key.name: "float64" if key.is_whole else "str" for key in case.keys}
-    types |= {"amount": "float64", "quantity": "int64"}
+    types = {name: "float64" if word in WHOLE else "str" for name, word in case.types.items()}
+    types |= dict.fromkeys(WITHOUT_NULLS, "int64")
     types = {name: types[name] for name in case.asked}
-    whole = {key.name: "Int64" for key in case.keys if key.is_whole}
-    count = ", 'count': groups.size()" if case.counted else ""
+    answer_types = {key.name: "Int64" for key in case.keys if key.is_whole}
+    made = []
+    for method, column in case.folds:
+        value, answer_type = PANDAS_METHODS[method]
+        made.append(f"'{column}_{method}': {value.format(column)}")
+        answer_types[f"{column}_{method}"] = answer_type
+    groups = f"groups = sales.groupby({case.key_names}, sort=False, dropna=False)"
+    grouped = [groups, f"answer = pandas.DataFrame({{{', '.join(made)}}}).reset_index()"]
     lines = [
         "import pandas, sys",
         f"options = dict(header=0, names={case.columns}, usecols={list(types)}, dtype={types})",
         f"sales = pandas.read_csv({table.path!r}, keep_default_na=False, na_values=[''], **options)",
-        f"groups = sales.groupby({case.key_names}, sort=False, dropna=False)",
-        f"answer = pandas.DataFrame({{'sum': groups['amount'].sum(){count}}})",
-        "answer = answer.astype('int64').reset_index()",
-        f"answer = answer.astype({whole})",
-        "answer.to_csv(sys.stdout, index=False)",
+        *(grouped if case.folds else [f"answer = sales[{case.key_names}].drop_duplicates()"]),
+        f"answer.astype({answer_types}).to_csv(sys.stdout, index=False)",
     ]
     return [python_with_pandas(), "-c", "\n".join(lines)]
-
-
-def r_vector(names):
-    return f"c({', '.join(map(repr, names))})"
-
-
-def r_script(table, threads, amount_type, libraries, lines):
-    """A script of R that reads the columns that are asked for and writes what the lines leave in `answer`.
-
-    R's integers have 32 bits, so that larger keys are floating; without the option, those and large sums would
-    be written with exponents.
-    """
-    case = table.case
-    types = {key.name: {"i64": "numeric", "date": "integer"}.get(key.type, "character") for key in case.keys}
-    types |= {"amount": amount_type, "quantity": "integer"}
-    fields = dict(zip(case.columns, case.header.split(",")))
-    columns = ", ".join(f'"{fields[name]}" = "{types[name]}"' for name in case.asked)
-    names = f"col.names = {r_vector(case.asked)}"
-    options = 'sep = ",", header = TRUE, na.strings = "", showProgress = FALSE'
-    reading = [f"suppressMessages(library({library}))" for library in libraries] + [
-        "options(scipen = 100)",
-        f"setDTthreads({threads})",
-        f'sales <- fread("{table.path}", select = c({columns}), {names}, {options})',
-    ]
-    writing = 'fwrite(answer, "/dev/stdout", quote = FALSE, showProgress = FALSE)'
-    return ["Rscript", "--vanilla", "-e", "; ".join([*reading, *lines, writing])]
-
-
-def data_table(table, threads):
-    count = ", count = .N" if table.case.counted else ""
-    keys = r_vector(table.case.key_names)
-    answer = f"answer <- sales[, .(sum = sum(amount, na.rm = TRUE){count}), by = {keys}]"
-    return r_script(table, threads, "integer", PACKAGES["data.table"], [answer])
-
-
-def collapse(table, threads):
-    """The amounts are floating, since a sum of integers must be one of 32 bits here."""
-    count = ", count = groups$group.sizes" if table.case.counted else ""
-    lines = [
-        f"groups <- GRP(sales, {r_vector(table.case.key_names)}, sort = FALSE)",
-        "sums <- fsum(sales$amount, groups)",
-        "sums[is.na(sums)] <- 0",
-        f"answer <- setDT(c(as.list(groups$groups), list(sum = sums{count})))",
-    ]
-    return r_script(table, threads, "numeric", PACKAGES["collapse"], lines)

@@ -4,13 +4,14 @@ import os
 import shutil
 import subprocess
 import sys
-from collections.abc import Callable
+from collections.abc import Callable, Collection
 from dataclasses import dataclass
 
 import clickhouse
 import peers
+import r_packages
 from clickhouse import Server
-from tables import Table
+from tables import METHODS, NULL_MARK, Table
 
 FOLDER = os.path.dirname(os.path.abspath(__file__))
 BASELINE = "baseline"
@@ -19,16 +20,23 @@ RUST = ["-C", "opt-level=3", "-C", "lto=fat", "-C", "codegen-units=1", "-C", "pa
 
 @dataclass(frozen=True)
 class Program:
-    """A program that reads a table on its standard input, or from its path, and writes the groups."""
+    """A program that reads a table on its standard input, or from its path, and writes the groups. It knows some
+    methods, and writes null as one of some words or as nothing."""
 
     name: str
     command: Callable[[Table], list[str]]
+    methods: Collection[str] = METHODS
     threads: int = 1
     own: bool = False
     header: bool = True
     marked: bool = False
     quotes: bool = True
+    nulls: Collection[str] = ()
     server: Server | None = None
+
+    def can_do(self, case):
+        """Whether it knows all that is asked, and quotes where there are some."""
+        return case.methods <= set(self.methods) and (self.quotes or not case.quotes)
 
 
 def build_rust(name, folder):
@@ -48,12 +56,13 @@ def build_rust(name, folder):
 def words(case, threads):
     """What gb_tool and the plain program are told."""
     keys = [word for name in case.key_names for word in ("--by", name)]
-    count = ["--agg", "count:quantity"] if case.counted else []
-    return ["group", *keys, "--agg", "sum:amount", *count, "--workers", str(threads)]
+    folds = [word for method, column in case.folds for word in ("--agg", f"{method}:{column}")]
+    return ["group", *keys, *folds, "--workers", str(threads)]
 
 
 def own_program(name, path, threads):
-    return Program(with_threads(name, threads), lambda table: [path, *words(table.case, threads)], threads, own=True)
+    name = with_threads(name, threads)
+    return Program(name, lambda table: [path, *words(table.case, threads)], threads=threads, own=True)
 
 
 def own_programs(tool, baseline, workers):
@@ -66,18 +75,31 @@ def with_threads(name, threads):
     return f"{name} -w{threads}"
 
 
+def awk(name):
+    return Program(name, lambda table: peers.awk(name, table), peers.AWK_METHODS, header=False, quotes=False)
+
+
 PLAIN = {
-    "mawk": Program("mawk", lambda table: peers.awk("mawk", table), header=False, quotes=False),
-    "gawk": Program("gawk", lambda table: peers.awk("gawk", table), header=False, quotes=False),
-    "datamash": Program("datamash", peers.datamash, header=False, marked=True, quotes=False),
-    "mlr": Program("mlr", peers.mlr),
-    "sqlite3": Program("sqlite3", peers.sqlite3, header=False),
-    "pandas": Program("pandas", peers.pandas),
+    "mawk": awk("mawk"),
+    "gawk": awk("gawk"),
+    "datamash": Program(
+        "datamash",
+        peers.datamash,
+        peers.DATAMASH_METHODS,
+        header=False,
+        marked=True,
+        quotes=False,
+        nulls=[NULL_MARK, "-inf", "inf"],
+    ),
+    "mlr": Program("mlr", peers.mlr, peers.MLR_METHODS),
+    "sqlite3": Program("sqlite3", peers.sqlite3, peers.SQLITE3_METHODS, header=False),
+    "pandas": Program("pandas", peers.pandas, peers.PANDAS_METHODS),
 }
+# What makes the command, the methods that are known, and the words for null.
 THREADED = {
-    "data.table": peers.data_table,
-    "collapse": peers.collapse,
-    "clickhouse": clickhouse.local_command,
+    "data.table": (r_packages.data_table, r_packages.DATA_TABLE_METHODS, ["Inf", "-Inf"]),
+    "collapse": (r_packages.collapse, r_packages.COLLAPSE_METHODS, []),
+    "clickhouse": (clickhouse.local_command, clickhouse.METHODS, []),
 }
 PEERS = [*PLAIN, *THREADED]
 
@@ -104,5 +126,13 @@ def installed_peers(names, workers, folder, stack):
 
 
 def threaded(name, threads, server):
-    command = server.command if server else THREADED[name]
-    return Program(with_threads(name, threads), lambda table: command(table, threads), threads, server=server)
+    local_command, methods, nulls = THREADED[name]
+    command = server.command if server else local_command
+    return Program(
+        with_threads(name, threads),
+        lambda table: command(table, threads),
+        methods,
+        threads,
+        nulls=nulls,
+        server=server,
+    )

@@ -41,7 +41,7 @@ def peak_cell(result, name):
 def figures(results, cell):
     """A table of one figure for each result and program."""
     names = names_of(results)
-    head = ["key", "rows", "groups", "input MB", *names]
+    head = ["case", "rows", "groups", "input MB", *names]
     rows = []
     for result in results:
         table = result.table

@@ -8,7 +8,7 @@ import sys
 from dataclasses import dataclass, field
 
 from programs import BASELINE, FOLDER, Program
-from tables import NULL_MARK, Table
+from tables import Table
 
 
 @dataclass
@@ -66,14 +66,14 @@ def normal_rows(program, text):
     """The rows of an answer in order of their bytes, without header and quotes, null spelled as nothing."""
     rows = text.replace(b'"', b"").replace(b"\r", b"").splitlines()
     rows = rows[1:] if program.header else rows
-    if program.marked:
-        rows = [without_marks(row) for row in rows]
+    if program.nulls:
+        nulls = {word.encode() for word in program.nulls}
+        rows = [without_nulls(row, nulls) for row in rows]
     return sorted(rows)
 
 
-def without_marks(row):
-    mark = NULL_MARK.encode()
-    return b",".join(b"" if field == mark else field for field in row.split(b","))
+def without_nulls(row, nulls):
+    return b",".join(b"" if field in nulls else field for field in row.split(b","))
 
 
 def sample(program, table, answer, measured):
@@ -103,9 +103,9 @@ def disagreement(program, measured, baseline):
 
 
 def measure(table, size, programs: list[Program], rounds, patience, folder):
-    """Runs all programs round by round. A peer that takes longer than the patience is run once, and one that
-    knows no quotes not at all where there are some."""
-    programs = [program for program in programs if program.quotes or not table.case.quotes]
+    """Runs round by round all programs that can do what is asked. A peer that takes longer than the patience is run
+    once."""
+    programs = [program for program in programs if program.can_do(table.case)]
     answer = os.path.join(folder, "answer")
     result = Result(table, size, {program.name: Measured(program.threads) for program in programs})
     for number in range(rounds):

@@ -1,4 +1,4 @@
-"""The tables that are grouped: one for each case and size, the same bytes at each run."""
+"""The tables that are grouped, and what is asked of them: one for each case and size, the same bytes at each run."""
 
 import itertools
 import os
@@ -10,8 +10,12 @@ CHUNK = 50_000
 FEW_VALUES = 100
 ROWS_PER_GROUP = 10
 WHOLE = ("i64", "date")
+WITHOUT_NULLS = ("sale", "quantity")
 NULL_MARK = "NA"
 IN_EACH, IN_LAST = "each", "last"
+# What an aggregate makes of a column, by gb_tool's words: a least or greatest of no cell is null, and null is one
+# of the values that n_unique counts.
+METHODS = ("sum", "min", "max", "count", "valid", "n_unique")
 
 DAYS = [f"2024-{month:02d}-{day:02d}" for month in range(1, 13) for day in range(1, 29)]
 CITIES = ["Aarhus", "Bern", "Gdańsk", "Köln", "León", "Lyon", "Oulu", "Porto", "Riga", "Turin", "Utrecht", "Zadar"]
@@ -32,7 +36,7 @@ SPELLINGS = {
 
 @dataclass(frozen=True)
 class Key:
-    """A key column. Its values are a hundred, or one for each so many rows."""
+    """A key column, or another made like one. Its values are a hundred, or one for each so many rows."""
 
     type: str
     rows_per_value: int = 0
@@ -52,35 +56,50 @@ class Key:
 
 @dataclass(frozen=True)
 class Case:
-    """A kind of table, and what is asked of it: by its keys the sum of the amounts and, mostly, the number of
-    rows. Quoted fields stand in each row, or in the last one, or in none."""
+    """A kind of table, and what is asked of it by its keys: pairs of a method and a column. Quoted fields stand in
+    each row, or in the last one, or in none."""
 
     name: str
     title: str
     keys: list[Key]
+    folds: tuple[tuple[str, str], ...] = (("sum", "amount"), ("count", "quantity"))
+    others: tuple[Key, ...] = ()
     in_order: bool = False
     quotes: str = ""
     line_end: str = "\n"
-    counted: bool = True
 
     @property
     def cities(self):
         return QUOTED_CITIES if self.quotes == IN_EACH else CITIES
 
     @property
+    def made(self):
+        """The columns that differ from case to case: the keys, and behind them others made like them."""
+        return [*self.keys, *self.others]
+
+    @property
     def last_rows(self):
         """A row with a quoted field, where only the last has one."""
-        keys = ",".join(key.spell(0) for key in self.keys)
-        return [f"0,{DAYS[0]},{keys},{QUOTED_CITIES[0]},1,1"] if self.quotes == IN_LAST else []
+        made = ",".join(key.spell(0) for key in self.made)
+        return [f"0,{DAYS[0]},{made},{QUOTED_CITIES[0]},1,1"] if self.quotes == IN_LAST else []
 
     @property
     def header(self):
-        keys = ",".join(f"{key.name}:{key.type}" for key in self.keys)
-        return f"sale:i64,day:str,{keys},city:str,amount:i64,quantity:i64"
+        made = ",".join(f"{key.name}:{key.type}" for key in self.made)
+        return f"sale:i64,day:str,{made},city:str,amount:i64,quantity:i64"
+
+    @property
+    def types(self):
+        """The types of all columns, by their names."""
+        return dict(field.split(":") for field in self.header.split(","))
 
     @property
     def columns(self):
-        return [field.split(":")[0] for field in self.header.split(",")]
+        return list(self.types)
+
+    def field(self, column):
+        """The field of the header that tells of a column."""
+        return f"{column}:{self.types[column]}"
 
     @property
     def key_names(self):
@@ -89,7 +108,11 @@ class Case:
     @property
     def asked(self):
         """The columns that an answer is made of."""
-        return [*self.key_names, "amount", *(["quantity"] if self.counted else [])]
+        return [*self.key_names, *dict.fromkeys(column for _, column in self.folds)]
+
+    @property
+    def methods(self):
+        return {method for method, _ in self.folds}
 
     def number(self, column):
         """The number of a column, from 1 on."""
@@ -97,6 +120,9 @@ class Case:
 
 
 FEW_TEXTS = [Key("str")]
+HUNDRED_ROWS_A_TEXT = [Key("str", 100)]
+ITEM = Key("str", 100, "item")
+THREE_FOLDS = (("sum", "amount"), ("min", "amount"), ("max", "amount"))
 SIX_KEYS = [
     Key("str", name="id1"),
     Key("str", name="id2"),
@@ -119,8 +145,12 @@ CASES = [
     Case("quoted", "texts, a quote in each row", FEW_TEXTS, quotes=IN_EACH),
     Case("quoted-last", "texts, a quote in the last row", FEW_TEXTS, quotes=IN_LAST),
     Case("two-byte-ends", "texts, lines end in \\r\\n", FEW_TEXTS, line_end="\r\n"),
-    Case("two-keys", "two keys of texts", SIX_KEYS[:2], counted=False),
+    Case("two-keys", "two keys of texts", SIX_KEYS[:2], (("sum", "amount"),)),
     Case("six-keys", "six keys, a group a row", SIX_KEYS),
+    Case("three-folds", "three aggregates by a text key", HUNDRED_ROWS_A_TEXT, THREE_FOLDS),
+    Case("distinct-texts", "distinct texts of a column", FEW_TEXTS, (("n_unique", ITEM.name),), others=(ITEM,)),
+    Case("keys-alone", "a text key, no aggregate", HUNDRED_ROWS_A_TEXT, folds=()),
+    Case("valid-counts", "sum and valid count by a number key", [Key("i64")], (("sum", "amount"), ("valid", "amount"))),
 ]
 
 
@@ -160,13 +190,13 @@ def lines(case, rows):
 def chunks(case, rows):
     """The rows of a table as texts of up to CHUNK rows."""
     draw = random.Random(f"{case.name} {rows}")
-    keys = [(ascending_keys if case.in_order else drawn_keys)(key, draw, rows) for key in case.keys]
+    made = [(ascending_keys if case.in_order else drawn_keys)(key, draw, rows) for key in case.made]
     for begin in range(0, rows, CHUNK):
         count = min(CHUNK, rows - begin)
         fields = zip(
             map(str, range(begin + 1, begin + count + 1)),
             draw.choices(DAYS, k=count),
-            *(itertools.islice(values, count) for values in keys),
+            *(itertools.islice(values, count) for values in made),
             draw.choices(case.cities, k=count),
             draw.choices(AMOUNTS, k=count),
             draw.choices(QUANTITIES, k=count),

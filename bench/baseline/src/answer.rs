@@ -16,7 +16,7 @@ const BLOCK: usize = 1 << 14;
 
 /// Writes the answer in blocks, of which as many are spelled at once as there are workers.
 pub fn write<'a, K: GroupKeys<'a>>(
-    merged: &Merged<K>,
+    merged: &Merged<'a, K>,
     plan: &Plan,
     request: &Request,
     mut output: impl Write,
@@ -45,7 +45,7 @@ fn header(plan: &Plan) -> Vec<u8> {
 }
 
 fn spelled<'a, K: GroupKeys<'a>>(
-    rows: &[(&Groups<K>, usize)],
+    rows: &[(&Groups<'a, K>, usize)],
     plan: &Plan,
     request: &Request,
 ) -> Vec<u8> {
@@ -57,7 +57,7 @@ fn spelled<'a, K: GroupKeys<'a>>(
 }
 
 fn write_row<'a, K: GroupKeys<'a>>(
-    groups: &Groups<K>,
+    groups: &Groups<'a, K>,
     place: usize,
     plan: &Plan,
     request: &Request,
@@ -80,8 +80,10 @@ fn write_row<'a, K: GroupKeys<'a>>(
     }
     for (aggregate, fold) in plan.folds.iter().enumerate() {
         text.push(b',');
-        let total = fold.form.wrapped(groups.total(aggregate, place));
-        fold.form.write(total, text);
+        match groups.total(aggregate, place) {
+            None => write_text(request.null_word.as_bytes(), text),
+            Some(total) => write_packed(fold.wrapped(total) as u128, fold.answer_type, text),
+        }
     }
     text.push(b'\n');
 }

@@ -1,33 +1,36 @@
-//! Some rows at a time: their keys, and the numbers that are summed. Each cell of the rows is checked.
+//! Some rows at a time: their keys, and the cells that are folded. Each cell of the rows is checked.
 
 use crate::column_type::ColumnType;
 use crate::fault::Fault;
 use crate::header::{Plan, Role};
 use crate::keys::RowKeys;
+use crate::one_key::Rows;
 use crate::reader::{Reader, TextCell};
+use crate::totals::Cells;
 
 const MOST_ROWS: usize = 256;
 
-pub struct Batch<R> {
+pub struct Batch<'a, R> {
     pub keys: R,
-    /// The numbers of each column that is summed, 0 for null.
-    pub numbers: Vec<Vec<i128>>,
+    pub cells: Cells<'a>,
 }
 
-impl<'a, R: RowKeys<'a>> Batch<R> {
-    pub fn new(plan: &Plan) -> Batch<R> {
+impl<'a, R: RowKeys<'a>> Batch<'a, R> {
+    pub fn new(plan: &Plan) -> Batch<'a, R> {
         Batch {
             keys: R::default(),
-            numbers: vec![Vec::with_capacity(MOST_ROWS); plan.summed],
+            cells: Cells {
+                numbers: vec![Vec::with_capacity(MOST_ROWS); plan.numbers],
+                values: (0..plan.values).map(|_| Rows::default()).collect(),
+            },
         }
     }
 
     /// Replaces the rows by those from a place on, and tells the place behind them. There are none at the end.
     pub fn fill(&mut self, reader: &Reader<'a>, plan: &Plan, place: usize) -> Result<usize, Fault> {
         self.keys.clear();
-        for numbers in &mut self.numbers {
-            numbers.clear();
-        }
+        self.cells.numbers.iter_mut().for_each(Vec::clear);
+        self.cells.values.iter_mut().for_each(Rows::clear);
         let (last, others) = plan.roles.split_last().expect("a header has a field");
         let mut place = place;
         for _ in 0..MOST_ROWS {
@@ -82,14 +85,23 @@ impl<'a, R: RowKeys<'a>> Batch<R> {
         if role.is_key {
             self.keys.push_number(key);
         }
-        if let Some(place) = role.summed {
-            self.numbers[place].push(number.unwrap_or(0));
+        if let Some(place) = role.numbers {
+            self.cells.numbers[place].push(number);
+        }
+        if let Some(place) = role.values {
+            self.cells.values[place].push_number(key);
         }
     }
 
     /// Keeps a text that was read with the place behind it, and tells that.
     #[inline(always)]
     fn keep_text(&mut self, role: &Role, (cell, end): (Option<TextCell<'a>>, usize)) -> usize {
+        if let Some(place) = role.numbers {
+            self.cells.numbers[place].push(cell.as_ref().map(|_| 0));
+        }
+        if let Some(place) = role.values {
+            self.cells.values[place].push_text(cell.clone());
+        }
         if role.is_key {
             self.keys.push_text(cell);
         }

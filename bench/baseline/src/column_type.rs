@@ -42,13 +42,15 @@ impl ColumnType {
         matches!(self, ColumnType::Text | ColumnType::Bytes)
     }
 
-    /// The form of the sums of a column, which those of booleans have as counts of 32 bits.
-    pub fn sum_form(self) -> Option<NumberForm> {
+    pub fn has_sum(self) -> bool {
         match self {
-            ColumnType::Number(form) => form.summed().then_some(form),
-            ColumnType::Flag => Some(NumberForm::unsigned(32)),
-            _ => None,
+            ColumnType::Number(form) => form.summed(),
+            _ => self == ColumnType::Flag,
         }
+    }
+
+    pub fn has_extremes(self) -> bool {
+        matches!(self, ColumnType::Number(_) | ColumnType::Flag)
     }
 }
 

@@ -3,48 +3,41 @@
 use crate::batch::Batch;
 use crate::header::Plan;
 use crate::keys::GroupKeys;
+use crate::totals::Totals;
 
-pub struct Groups<K> {
+pub struct Groups<'a, K> {
     pub keys: K,
-    /// For each aggregate a number for each group.
-    totals: Vec<Vec<i128>>,
+    /// One for each aggregate.
+    totals: Vec<Totals<'a>>,
 }
 
-impl<'a, K: GroupKeys<'a>> Groups<K> {
-    pub fn new(plan: &Plan) -> Groups<K> {
+impl<'a, K: GroupKeys<'a>> Groups<'a, K> {
+    pub fn new(plan: &Plan) -> Groups<'a, K> {
         Groups {
             keys: K::new(plan),
-            totals: vec![Vec::new(); plan.folds.len()],
+            totals: plan.folds.iter().map(Totals::new).collect(),
         }
     }
 
-    pub fn total(&self, aggregate: usize, place: usize) -> i128 {
-        self.totals[aggregate][place]
+    /// What an aggregate made of a group, or nothing for null.
+    pub fn total(&self, aggregate: usize, place: usize) -> Option<i128> {
+        self.totals[aggregate].get(place)
     }
 
     /// Adds the rows of a batch.
-    pub fn add(&mut self, batch: &mut Batch<K::Rows>, plan: &Plan, places: &mut Vec<usize>) {
+    pub fn add(&mut self, batch: &mut Batch<'a, K::Rows>, plan: &Plan, places: &mut Vec<usize>) {
         self.keys.find_places(&mut batch.keys, places);
+        let count = self.keys.count();
         for (fold, totals) in plan.folds.iter().zip(&mut self.totals) {
-            totals.resize(self.keys.count(), 0);
-            match fold.summed {
-                None => places.iter().for_each(|&place| totals[place] += 1),
-                Some(column) => {
-                    for (&place, &number) in places.iter().zip(&batch.numbers[column]) {
-                        totals[place] = totals[place].wrapping_add(number);
-                    }
-                }
-            }
+            totals.add(&mut batch.cells, fold.column, places, count);
         }
     }
 
-    /// Adds a group of another part of the rows, and tells its place here.
-    pub fn add_group(&mut self, other: &Groups<K>, place: usize) -> usize {
-        let own = self.keys.place_of(&other.keys, place);
+    /// Adds what was made of groups of another part of the rows, of which the places there and here are told.
+    pub fn merge(&mut self, other: &Groups<'a, K>, places: &[(usize, usize)]) {
+        let count = self.keys.count();
         for (totals, others) in self.totals.iter_mut().zip(&other.totals) {
-            totals.resize(self.keys.count(), 0);
-            totals[own] = totals[own].wrapping_add(others[place]);
+            totals.merge(others, places, count);
         }
-        own
     }
 }

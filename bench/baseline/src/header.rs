@@ -8,7 +8,7 @@ use crate::numbers::NumberForm;
 use crate::reader::{check_text, Glance, Reader};
 use crate::request::{Aggregate, Method, Request};
 
-const COUNT_FORM: NumberForm = NumberForm::unsigned(32);
+const COUNT: (ColumnType, &str) = (ColumnType::Number(NumberForm::unsigned(32)), "u32");
 
 pub struct Column {
     name: String,
@@ -24,8 +24,10 @@ pub struct Plan {
     pub folds: Vec<Fold>,
     /// The names and types of the answer's columns.
     pub answer: Vec<String>,
-    /// How many columns are summed.
-    pub summed: usize,
+    /// How many columns are kept as numbers.
+    pub numbers: usize,
+    /// How many columns are kept as values that are told apart.
+    pub values: usize,
 }
 
 pub struct KeyColumn {
@@ -38,18 +40,36 @@ pub struct Role {
     pub column_type: ColumnType,
     pub glance: Glance,
     pub is_key: bool,
-    /// The place of the column among those that are summed.
-    pub summed: Option<usize>,
+    /// The place of the column among those that are kept as numbers.
+    pub numbers: Option<usize>,
+    /// The place of the column among those that are kept as values.
+    pub values: Option<usize>,
 }
 
-/// What one aggregate makes of the rows of a group, and the form in which it is written.
+/// What one aggregate makes of the rows of a group.
 pub struct Fold {
-    pub form: NumberForm,
-    /// The place of a column among those that are summed, or nothing where rows are counted.
-    pub summed: Option<usize>,
+    pub method: Method,
+    /// The place of its column among those that are kept for such an aggregate; for a count there is none.
+    pub column: usize,
+    pub column_type: ColumnType,
+    pub answer_type: ColumnType,
+}
+
+impl Fold {
+    /// A total as it is after wrapping in its type.
+    pub fn wrapped(&self, total: i128) -> i128 {
+        match self.answer_type {
+            ColumnType::Number(form) => form.wrapped(total),
+            _ => total,
+        }
+    }
 }
 
 impl Column {
+    fn answer_type(&self) -> (ColumnType, &str) {
+        (self.column_type, &self.type_word)
+    }
+
     /// A header field is a name, or a name, a colon and the word of a type.
     fn from_field(field: &str) -> Column {
         let cut = field.rsplit_once(':');
@@ -92,14 +112,16 @@ pub fn plan(columns: &[Column], request: &Request) -> Result<Plan, Fault> {
         column_type: column.column_type,
         glance: Glance::Nothing,
         is_key: keys.contains(&place),
-        summed: None,
+        numbers: None,
+        values: None,
     });
     let mut plan = Plan {
         roles: roles.collect(),
         keys: Vec::new(),
         folds: Vec::new(),
         answer: Vec::new(),
-        summed: 0,
+        numbers: 0,
+        values: 0,
     };
     for &key in &keys {
         plan.add_key(columns, key);
@@ -115,7 +137,7 @@ pub fn plan(columns: &[Column], request: &Request) -> Result<Plan, Fault> {
 
 impl Role {
     fn allow_glance(&mut self) {
-        if self.is_key || self.summed.is_some() {
+        if self.is_key || self.numbers.is_some() || self.values.is_some() {
             return;
         }
         self.glance = match self.column_type {
@@ -143,27 +165,42 @@ impl Plan {
     fn add(&mut self, columns: &[Column], aggregate: &Aggregate) -> Result<(), Fault> {
         let place = position(columns, &aggregate.column)?;
         let column = &columns[place];
-        let (form, word, summed) = match aggregate.method {
-            Method::Count => (COUNT_FORM, "u32", None),
-            Method::Sum => {
-                let form = column.column_type.sum_form();
-                let form = form.ok_or(Fault::Group("a column of a type that has no sum"))?;
-                let flags = column.column_type == ColumnType::Flag;
-                let word = if flags { "u32" } else { &column.type_word };
-                (form, word, Some(self.place_among_summed(place)))
-            }
-        };
+        let (answer_type, word) = answer_type(aggregate.method, column)?;
         self.answer.push(format!("{}:{word}", aggregate.name()));
-        self.folds.push(Fold { form, summed });
+        let role = &mut self.roles[place];
+        let column = match aggregate.method {
+            Method::Count => 0,
+            Method::NUnique => place_among(&mut role.values, &mut self.values),
+            _ => place_among(&mut role.numbers, &mut self.numbers),
+        };
+        self.folds.push(Fold {
+            method: aggregate.method,
+            column,
+            column_type: role.column_type,
+            answer_type,
+        });
         Ok(())
     }
+}
 
-    fn place_among_summed(&mut self, column: usize) -> usize {
-        let next = self.summed;
-        let place = *self.roles[column].summed.get_or_insert(next);
-        self.summed = next.max(place + 1);
-        place
+/// The type of what an aggregate makes of a column, and its word.
+fn answer_type(method: Method, column: &Column) -> Result<(ColumnType, &str), Fault> {
+    match method {
+        Method::Count | Method::Valid | Method::NUnique => Ok(COUNT),
+        Method::Sum if column.column_type == ColumnType::Flag => Ok(COUNT),
+        Method::Sum if column.column_type.has_sum() => Ok(column.answer_type()),
+        Method::Min | Method::Max if column.column_type.has_extremes() => Ok(column.answer_type()),
+        Method::Sum => Err(Fault::Group("a column of a type that has no sum")),
+        Method::Min | Method::Max => Err(Fault::Group("no least or greatest of texts is sought")),
     }
+}
+
+/// The place of a column among some, of which it becomes the last where it was none.
+fn place_among(place: &mut Option<usize>, count: &mut usize) -> usize {
+    *place.get_or_insert_with(|| {
+        *count += 1;
+        *count - 1
+    })
 }
 
 /// The columns of the answer have different names.

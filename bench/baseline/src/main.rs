@@ -1,10 +1,13 @@
 //! Groups a typed CSV table by one column or several, as `gb_tool group` does: plain Rust, nothing proved.
 //!
-//!     baseline group --by NAME... [--agg sum:NAME | --agg count:NAME]... [--null WORD] [--workers N] < TABLE
+//!     baseline group --by NAME... [--agg METHOD:NAME]... [--null WORD] [--workers N] < TABLE
+//!
+//! The methods are sum, min, max, count, valid and n_unique; min and max are not those of texts and bytes.
 
 mod answer;
 mod batch;
 mod column_type;
+mod distinct;
 mod fault;
 mod groups;
 mod header;
@@ -18,6 +21,7 @@ mod reader;
 mod request;
 mod several_keys;
 mod slots;
+mod totals;
 mod words;
 mod workers;
 

@@ -2,6 +2,7 @@
 
 use std::borrow::Cow;
 
+use crate::column_type::ColumnType;
 use crate::header::{KeyColumn, Plan};
 use crate::keys::{GroupKeys, Key, RowKeys};
 use crate::reader::TextCell;
@@ -58,13 +59,7 @@ impl<'a> GroupKeys<'a> for Keys<'a> {
     type Rows = Rows<'a>;
 
     fn new(plan: &Plan) -> Keys<'a> {
-        Keys {
-            slots: Slots::new(),
-            keys: Vec::new(),
-            null_place: None,
-            holds_texts: plan.keys[0].column_type.holds_texts(),
-            long_texts: Vec::new(),
-        }
+        Keys::of_type(plan.keys[0].column_type)
     }
 
     fn count(&self) -> usize {
@@ -121,6 +116,16 @@ impl<'a> GroupKeys<'a> for Keys<'a> {
 }
 
 impl<'a> Keys<'a> {
+    pub fn of_type(column_type: ColumnType) -> Keys<'a> {
+        Keys {
+            slots: Slots::new(),
+            keys: Vec::new(),
+            null_place: None,
+            holds_texts: column_type.holds_texts(),
+            long_texts: Vec::new(),
+        }
+    }
+
     fn place_of_null(&mut self) -> usize {
         let next = self.keys.len();
         let place = *self.null_place.get_or_insert(next);

@@ -10,8 +10,8 @@ use crate::reader::Reader;
 use crate::workers::each;
 
 /// What a worker found in a part of the rows.
-struct Part<K> {
-    groups: Result<Groups<K>, Fault>,
+struct Part<'a, K> {
+    groups: Result<Groups<'a, K>, Fault>,
     /// Whether the part ended inside quotes.
     is_open: bool,
 }
@@ -25,7 +25,7 @@ pub fn group_rows<'a, K: GroupKeys<'a>>(
     place: usize,
     plan: &Plan,
     workers: usize,
-) -> Result<Merged<K>, Fault> {
+) -> Result<Merged<'a, K>, Fault> {
     let parts = group_parts(reader, place, plan, workers);
     let last = parts.len() - 1;
     let mut groups = Vec::new();
@@ -43,7 +43,7 @@ fn group_parts<'a, K: GroupKeys<'a>>(
     place: usize,
     plan: &Plan,
     workers: usize,
-) -> Vec<Part<K>> {
+) -> Vec<Part<'a, K>> {
     let cuts = cuts(reader.text(), place, workers);
     let parts = cuts.windows(2).map(|cut| (reader.up_to(cut[1]), cut[0]));
     each(parts, |(reader, place)| Part::read(&reader, place, plan))
@@ -62,11 +62,8 @@ fn cuts(text: &[u8], front: usize, workers: usize) -> Vec<usize> {
     cuts
 }
 
-impl<K> Part<K> {
-    fn read<'a>(reader: &Reader<'a>, place: usize, plan: &Plan) -> Part<K>
-    where
-        K: GroupKeys<'a>,
-    {
+impl<'a, K: GroupKeys<'a>> Part<'a, K> {
+    fn read(reader: &Reader<'a>, place: usize, plan: &Plan) -> Part<'a, K> {
         Part {
             groups: group_part(reader, place, plan),
             is_open: reader.is_open(),
@@ -78,7 +75,7 @@ fn group_part<'a, K: GroupKeys<'a>>(
     reader: &Reader<'a>,
     place: usize,
     plan: &Plan,
-) -> Result<Groups<K>, Fault> {
+) -> Result<Groups<'a, K>, Fault> {
     let mut groups = Groups::new(plan);
     let mut batch: Batch<K::Rows> = Batch::new(plan);
     let mut places = Vec::new();
@@ -160,6 +157,26 @@ mod tests {
             ),
             Some(format!("b:str,a:str,n_sum:u8\n{wanted}"))
         );
+    }
+
+    #[test]
+    fn an_extreme_of_no_cell_is_null_and_null_is_a_value() {
+        let text = "a,b:i8,c,d:bool\nx,,u,\ny,-3,,true\nx,,\"u\",\ny,9,v,false\nz,-128,w,\n\
+                    y,,a text of many bytes,true\nz,127,a text of many bytes,\n";
+        let words =
+            "group --by a --agg min:b --agg max:b --agg valid:b --agg n_unique:c --agg valid:c \
+                     --agg min:d --agg n_unique:d --agg n_unique:a";
+        let header = "a:str,b_min:i8,b_max:i8,b_count:u32,c_n_unique:u32,c_count:u32,d_min:bool,\
+                      d_n_unique:u32,a_n_unique:u32";
+        let groups = "x,,,0,1,2,,1,1\ny,-3,9,2,3,2,false,2,1\nz,-128,127,2,2,2,,1,1\n";
+        let wanted = format!("{header}\n{groups}");
+        assert_eq!(same_for_all_workers(words, text), Some(wanted));
+    }
+
+    #[test]
+    fn keys_alone_stand_once_each() {
+        let answers = same_for_all_workers("group --by a", "b,a\n1,x\n2,\n3,x\n4,\"y,y\"\n5,\n");
+        assert_eq!(answers.as_deref(), Some("a:str\nx\n\"\"\n\"y,y\"\n"));
     }
 
     #[test]

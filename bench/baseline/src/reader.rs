@@ -31,6 +31,7 @@ pub enum Glance {
 }
 
 /// A text between two places of a longer one.
+#[derive(Clone)]
 pub struct TextCell<'a> {
     text: Cow<'a, [u8]>,
     begin: usize,

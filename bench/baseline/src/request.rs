@@ -8,7 +8,11 @@ const USUAL_WORKERS: usize = 4;
 #[derive(Clone, Copy, Debug, PartialEq, Eq)]
 pub enum Method {
     Sum,
+    Min,
+    Max,
     Count,
+    Valid,
+    NUnique,
 }
 
 #[derive(Debug, PartialEq, Eq)]
@@ -65,28 +69,45 @@ fn workers_of_word(word: &str) -> Result<usize, Fault> {
         .ok_or(Fault::Words("there are 1 to 64 workers"))
 }
 
+impl Method {
+    fn of_word(word: &str) -> Option<Method> {
+        match word {
+            "sum" => Some(Method::Sum),
+            "min" => Some(Method::Min),
+            "max" => Some(Method::Max),
+            "count" => Some(Method::Count),
+            "valid" => Some(Method::Valid),
+            "n_unique" => Some(Method::NUnique),
+            _ => None,
+        }
+    }
+
+    /// What ends the name of such an aggregate's column in the answer.
+    fn ending(self) -> &'static str {
+        match self {
+            Method::Sum => "sum",
+            Method::Min => "min",
+            Method::Max => "max",
+            Method::Count | Method::Valid => "count",
+            Method::NUnique => "n_unique",
+        }
+    }
+}
+
 impl Aggregate {
     fn from_word(word: &str) -> Result<Aggregate, Fault> {
-        let (method, column) = match word.split_once(':') {
-            Some(("sum", column)) => (Method::Sum, column),
-            Some(("count", column)) => (Method::Count, column),
-            _ => {
-                return Err(Fault::Words(
-                    "an aggregate is neither sum:NAME nor count:NAME",
-                ))
-            }
-        };
-        Ok(Aggregate {
-            method,
-            column: column.to_string(),
-        })
+        let parts = word.split_once(':');
+        let aggregate = parts.and_then(|(method, column)| {
+            Some(Aggregate {
+                method: Method::of_word(method)?,
+                column: column.to_string(),
+            })
+        });
+        aggregate.ok_or(Fault::Words("an aggregate is no METHOD:NAME"))
     }
 
     /// The name of the aggregate's column in the answer.
     pub fn name(&self) -> String {
-        match self.method {
-            Method::Sum => format!("{}_sum", self.column),
-            Method::Count => format!("{}_count", self.column),
-        }
+        format!("{}_{}", self.column, self.method.ending())
     }
 }
